@@ -1,0 +1,9 @@
+pub mod Numbers
+pub mod Outcomes
+pub mod Forms
+pub mod Back
+pub mod Forward
+pub mod Rewritten
+pub mod Blocks
+pub mod Reading
+pub mod Puts

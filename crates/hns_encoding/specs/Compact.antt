@@ -1,0 +1,48 @@
+-- Document 01, 'A compact size is 1 byte below 253, else fd and 2, fe and 4, ff and 8, always the shortest', and the reads that a compact size bounds.
+use Prim.Native.Nat.{ℕ, _*_}
+use mathlib.Core.List.{List, [], _∷_, _++_}
+use lib.ListN.{length}
+use lib.Dec.{leb, ltb, eqb}
+use Rattle.hns_encoding.specs.Refusals.{notShortest, overLimit}
+use Rattle.hns_encoding.specs.Bytes.{leBytes, choose, Outcome, got, stop, after, leAt, bytesAt}
+
+-- the bytes after the first of a wide form: n of them, of a number that no shorter form holds
+unfoldable pub wideAt : ℕ → ℕ → List ℕ → ℕ → Outcome ℕ
+wideAt n least s at =
+    after (leAt n s at) (λ v next. choose (leb least v) (got v next) (stop (notShortest (8 * n))))
+
+-- what a first byte says of the rest
+unfoldable pub compactFrom : ℕ → List ℕ → ℕ → Outcome ℕ
+compactFrom first s next =
+    choose (ltb first 253)
+    (got first next)
+    (choose (eqb first 253)
+    (wideAt 2 253 s next)
+    (choose (eqb first 254) (wideAt 4 65536 s next) (wideAt 8 4294967296 s next)))
+
+-- a compact size: two reads, its first byte and the bytes after it
+unfoldable pub compactAt : List ℕ → ℕ → Outcome ℕ
+compactAt s at = after (leAt 1 s at) (λ first next. compactFrom first s next)
+
+-- the shortest form
+unfoldable pub compactBytes : ℕ → List ℕ
+compactBytes v =
+    choose (ltb v 253)
+    (v ∷ [])
+    (choose (ltb v 65536) (253 ∷ leBytes 2 v) (choose (ltb v 4294967296) (254 ∷ leBytes 4 v) (255 ∷ leBytes 8 v)))
+
+-- a count of at most so many; the code of its field, 0 where the caller has none
+unfoldable pub countAt : ℕ → ℕ → List ℕ → ℕ → Outcome ℕ
+countAt limit field s at =
+    after (compactAt s at) (λ n next. choose (leb n limit) (got n next) (stop (overLimit n limit field)))
+
+-- n bytes, of at most so many
+unfoldable pub boundedAt : ℕ → ℕ → List ℕ → ℕ → Outcome (List ℕ)
+boundedAt n limit s at = choose (leb n limit) (bytesAt n s at) (stop (overLimit n limit 0))
+
+-- a count and as many bytes
+unfoldable pub varbytesAt : ℕ → List ℕ → ℕ → Outcome (List ℕ)
+varbytesAt limit s at = after (countAt limit 0 s at) (λ n next. boundedAt n limit s next)
+
+unfoldable pub varbytes : List ℕ → List ℕ
+varbytes x = compactBytes (length x) ++ x

@@ -1,0 +1,201 @@
+-- Document 01, 'The packet': a payload as its fields in order, the values that they read as, and reading and writing by them.
+use Prim.Native.Nat.{ℕ, zero, suc, _+_, _-_, _≤_, _<_, _%_, _^_}
+use mathlib.Core.List.{List, [], _∷_, _++_, map}
+use mathlib.Core.Bool.{Bool, true, false}
+use mathlib.Core.Path.{_≡_}
+use lib.ListN.{length, take, replicate}
+use lib.Dec.{leb, eqb}
+use Rattle.hns_encoding.specs.declared.Refusal.{Refusal}
+use Rattle.hns_encoding.specs.Refusals.{unexpectedEnd, indexOver, indexCountField, indexField}
+use Rattle.hns_encoding.specs.Bytes.{le, leBytes, choose, Outcome, got, stop, after, part, bytesAt, leAt, toEnd}
+use Rattle.hns_encoding.specs.Compact.{compactBytes, countAt}
+
+pub data Format : Type 0 where
+  -- no field
+  nothing : Format
+  -- a little-endian number of so many bytes
+  num : ℕ → Format
+  -- so many bytes as they stand
+  raw : ℕ → Format
+  -- so many bytes that are not kept
+  reserved : ℕ → Format
+  -- host kind and host: ip is the first 16 bytes if the kind is 0, else zeros
+  host : Format
+  -- true only for 1
+  flag : Format
+  -- a length byte and as many bytes, each without its top bit; the text's field code
+  text : ℕ → Format
+  -- a count of at most so many, and as many items; the field code of the count
+  counted : ℕ → ℕ → Format → Format
+  -- BIP 152's index list: a count and differences
+  indexes : Format
+  -- one read of so many bytes, which are then a record of their own
+  whole : ℕ → Format → Format
+  -- one byte, and then what that byte says
+  tagged : (ℕ → Format) → Format
+  -- one format after another
+  _▸_ : Format → Format → Format
+
+infixr 50 _▸_
+-- what a format reads as
+abbrev pub Value : Format → Type 0
+Value nothing = Unit {0}
+Value (num n) = ℕ
+Value (raw n) = List ℕ
+Value (reserved n) = Unit {0}
+Value host = List ℕ
+Value flag = Bool
+Value (text field) = List ℕ
+Value (counted limit field f) = List (Value f)
+Value indexes = List ℕ
+Value (whole n f) = Value f
+Value (tagged k) = (t : ℕ) × Value (k t)
+Value (f ▸ g) = Value f × Value g
+
+-- ---- reading
+
+abbrev pub low7 : ℕ → ℕ
+low7 b = b % 128
+
+abbrev pub ipOf : ℕ → List ℕ → List ℕ
+ipOf kind bs = choose (eqb kind 0) (take 16 bs) (replicate 16 0)
+
+abbrev pub many : {A : Type 0} → ℕ → (List ℕ → ℕ → Outcome A) → List ℕ → ℕ → Outcome (List A)
+many zero item s at = got [] at
+many (suc n) item s at = after (item s at) (λ a next. after (many n item s next) (λ xs last. got (a ∷ xs) last))
+
+-- BIP 152: the first index is the first difference, each later one is previous + difference + 1. So many indexes, of which `base` is the least that the first can be.
+abbrev pub indexesFrom : ℕ → ℕ → List ℕ → ℕ → Outcome (List ℕ)
+indexesFrom zero base s at = got [] at
+indexesFrom (suc n) base s at =
+    after (countAt 65535 indexField s at) (λ d next.
+    choose (leb (base + d) 65535)
+    (after (indexesFrom n (base + d + 1) s next) (λ is last. got ((base + d) ∷ is) last))
+    (stop indexOver))
+
+-- fields left to right
+unfoldable pub read : (f : Format) → List ℕ → ℕ → Outcome (Value f)
+read nothing s at = got tt at
+read (num n) s at = leAt n s at
+read (raw n) s at = bytesAt n s at
+read (reserved n) s at = after (bytesAt n s at) (λ bs next. got tt next)
+read host s at = after (leAt 1 s at) (λ kind next. after (bytesAt 36 s next) (λ bs last. got (ipOf kind bs) last))
+read flag s at = after (leAt 1 s at) (λ b next. got (eqb b 1) next)
+read (text field) s at = after (leAt 1 s at) (λ n next. after (bytesAt n s next) (λ bs last. got (map low7 bs) last))
+read (counted limit field f) s at = after (countAt limit field s at) (λ n next. many n (read f) s next)
+read indexes s at = after (countAt 16662 indexCountField s at) (λ n next. indexesFrom n 0 s next)
+read (whole n f) s at = after (bytesAt n s at) (λ bs next. after (toEnd (read f) bs) (λ v last. got v next))
+read (tagged k) s at = after (leAt 1 s at) (λ t next. after (read (k t) s next) (λ v last. got (t, v) last))
+read (f ▸ g) s at = after (read f s at) (λ a next. after (read g s next) (λ b last. got (a, b) last))
+
+-- ---- writing
+
+abbrev pub flagByte : Bool → ℕ
+flagByte true = 1
+flagByte false = 0
+
+-- the differences of indexes of which `base` is the least that the first can be
+abbrev pub differences : ℕ → List ℕ → List ℕ
+differences base [] = []
+differences base (i ∷ is) = compactBytes (i - base) ++ differences (i + 1) is
+
+abbrev pub writeAll : {A : Type 0} → (A → List ℕ) → List A → List ℕ
+writeAll item [] = []
+writeAll item (a ∷ xs) = item a ++ writeAll item xs
+
+unfoldable pub write : (f : Format) → Value f → List ℕ
+write nothing v = []
+write (num n) v = leBytes n v
+write (raw n) v = v
+write (reserved n) v = replicate n 0
+write host v = 0 ∷ (v ++ replicate 20 0)
+write flag v = flagByte v ∷ []
+write (text field) v = length v ∷ v
+write (counted limit field f) v = compactBytes (length v) ++ writeAll (write f) v
+write indexes v = compactBytes (length v) ++ differences 0 v
+write (whole n f) v = write f v
+write (tagged k) v = v .0 ∷ write (k (v .0)) (v .1)
+write (f ▸ g) v = write f (v .0) ++ write g (v .1)
+
+abbrev pub All : {A : Type 0} → (A → Type 0) → List A → Type 0
+All P [] = Unit {0}
+All P (a ∷ xs) = P a × All P xs
+
+-- indexes that rise from `base` and stay below 65,536
+abbrev pub Rising : ℕ → List ℕ → Type 0
+Rising base [] = Unit {0}
+Rising base (i ∷ is) = (base ≤ i) × (i ≤ 65535) × Rising (i + 1) is
+
+-- the values that a format can write
+abbrev pub Fit : (f : Format) → Value f → Type 0
+Fit nothing v = Unit {0}
+Fit (num n) v = v < 256 ^ n
+Fit (raw n) v = length v ≡ n
+Fit (reserved n) v = Unit {0}
+Fit host v = length v ≡ 16
+Fit flag v = Unit {0}
+Fit (text field) v = (length v ≤ 255) × All (λ b. b < 128) v
+Fit (counted limit field f) v = (length v ≤ limit) × (length v < 2 ^ 64) × All (Fit f) v
+Fit indexes v = (length v ≤ 16662) × Rising 0 v
+Fit (whole n f) v = (length (write f v) ≡ n) × Fit f v
+Fit (tagged k) v = (v .0 < 256) × Fit (k (v .0)) (v .1)
+Fit (f ▸ g) v = Fit f (v .0) × Fit g (v .1)
+
+-- ---- formats of fixed size, as blocks
+
+-- the widths of the reads of a format that has no counts, texts or tags, in order
+abbrev pub widths : Format → List ℕ
+widths nothing = []
+widths (num n) = n ∷ []
+widths (raw n) = n ∷ []
+widths (reserved n) = n ∷ []
+widths host = 1 ∷ 36 ∷ []
+widths flag = 1 ∷ []
+widths (text field) = []
+widths (counted limit field f) = []
+widths indexes = []
+widths (whole n f) = n ∷ []
+widths (tagged k) = []
+widths (f ▸ g) = widths f ++ widths g
+
+abbrev pub sum : List ℕ → ℕ
+sum [] = 0
+sum (w ∷ ws) = w + sum ws
+
+abbrev pub size : Format → ℕ
+size f = sum (widths f)
+
+-- a format has no counts, texts or tags
+abbrev pub Fixed : Format → Type 0
+Fixed nothing = Unit {0}
+Fixed (num n) = Unit {0}
+Fixed (raw n) = Unit {0}
+Fixed (reserved n) = Unit {0}
+Fixed host = Unit {0}
+Fixed flag = Unit {0}
+Fixed (text field) = ⊥
+Fixed (counted limit field f) = ⊥
+Fixed indexes = ⊥
+Fixed (whole n f) = (size f ≡ n) × Fixed f
+Fixed (tagged k) = ⊥
+Fixed (f ▸ g) = Fixed f × Fixed g
+
+-- where reads of these widths end first, of so many bytes that are left
+abbrev pub short : List ℕ → ℕ → ℕ → Refusal
+short [] at there = unexpectedEnd at 0
+short (w ∷ ws) at there = choose (leb w there) (short ws (at + w) (there - w)) (unexpectedEnd at (w - there))
+
+-- what stands at a place, where it fits
+abbrev pub valueAt : (f : Format) → Fixed f → List ℕ → ℕ → Value f
+valueAt nothing x s at = tt
+valueAt (num n) x s at = le (part s at n)
+valueAt (raw n) x s at = part s at n
+valueAt (reserved n) x s at = tt
+valueAt host x s at = ipOf (le (part s at 1)) (part s (at + 1) 36)
+valueAt flag x s at = eqb (le (part s at 1)) 1
+valueAt (text field) x s at = absurd x
+valueAt (counted limit field f) x s at = absurd x
+valueAt indexes x s at = absurd x
+valueAt (whole n f) x s at = valueAt f (x .1) (part s at n) 0
+valueAt (tagged k) x s at = absurd x
+valueAt (f ▸ g) x s at = (valueAt f (x .0) s at, valueAt g (x .1) s (at + size f))

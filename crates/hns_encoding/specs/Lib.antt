@@ -1,0 +1,7 @@
+pub mod Refusals
+pub mod Bytes
+pub mod Compact
+pub mod Format
+pub mod Marks
+pub mod Put
+pub mod Answers

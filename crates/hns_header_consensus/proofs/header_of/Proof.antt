@@ -1,0 +1,77 @@
+use borrow.Author.Needs.{needs}
+use Rattle.hns_header_consensus.proofs.Headers.{same-header}
+use mathlib.Core.Path.{_≡_, _∙_}
+use Rattle.hns_encoding.proofs.Reading.{number-there}
+use Rattle.hns_encoding.specs.Bytes.{le, part, numberAt}
+use lib.Dec.{lit≤}
+use Prim.Native.Nat.{ℕ, _+_, _≤_}
+use native.Mathlib.Omega.{arith}
+use Rattle.hns_header_consensus.proofs.header_of.Statement.{statement}
+use Rattle.hns_header_consensus.proofs.header_of.Tie as tie
+
+u32-at-requires : tie.Need-u32-at-requires
+u32-at-requires c κs = search needs
+
+u64-at-requires : tie.Need-u64-at-requires
+u64-at-requires c κs = search needs
+
+array32-requires : tie.Need-array32-requires
+array32-requires c κs = search needs
+
+array32-requires-2 : tie.Need-array32-requires-2
+array32-requires-2 c κs = search needs
+
+array24-requires : tie.Need-array24-requires
+array24-requires c κs = search needs
+
+array32-requires-3 : tie.Need-array32-requires-3
+array32-requires-3 c κs = search needs
+
+array32-requires-4 : tie.Need-array32-requires-4
+array32-requires-4 c κs = search needs
+
+array32-requires-5 : tie.Need-array32-requires-5
+array32-requires-5 c κs = search needs
+
+u32-at-requires-2 : tie.Need-u32-at-requires-2
+u32-at-requires-2 c κs = search needs
+
+u32-at-requires-3 : tie.Need-u32-at-requires-3
+u32-at-requires-3 c κs = search needs
+
+array32-requires-6 : tie.Need-array32-requires-6
+array32-requires-6 c κs = search needs
+
+returns : tie.Need-returns
+returns c =
+    let s = c .before .before .before .before .before .before .before .before .before .before .before .before .args .block .now in
+    let number : (n p : ℕ) → n + p ≤ 236 → numberAt n s p ≡ le (part s p n) = λ n p h. number-there n s p (omega arith) in
+    same-header
+    (c .before .before .before .before .before .before .before .before .before .before .u32-at .ensures ∙ number 4 0 (lit≤ tt))
+    (c .before .before .before .before .before .before .before .before .before .u64-at .ensures ∙ number 8 4 (lit≤ tt))
+    (c .before .before .before .before .before .before .before .before .array32 .ensures)
+    (c .before .before .before .before .before .before .before .array322 .ensures)
+    (c .before .before .before .before .before .before .array24 .ensures)
+    (c .before .before .before .before .before .array323 .ensures)
+    (c .before .before .before .before .array324 .ensures)
+    (c .before .before .before .array325 .ensures)
+    (c .before .before .u32-at2 .ensures ∙ number 4 196 (lit≤ tt))
+    (c .before .u32-at3 .ensures ∙ number 4 200 (lit≤ tt))
+    (c .array326 .ensures)
+
+pub header-of-spec : {M : Type 1} → statement M
+header-of-spec =
+    tie.close
+    (tie.spec
+    u32-at-requires
+    u64-at-requires
+    array32-requires
+    array32-requires-2
+    array24-requires
+    array32-requires-3
+    array32-requires-4
+    array32-requires-5
+    u32-at-requires-2
+    u32-at-requires-3
+    array32-requires-6
+    returns)

@@ -1,0 +1,363 @@
+// Document 01's examples of the refusals and compact sizes of hns_encoding and hns_header_consensus, and the genesis
+// headers, a line a case: what was asked and what was answered. The file stdout has the lines that are right.
+use hns_encoding::Encoder;
+use hns_encoding::Finished;
+use hns_encoding::Number;
+use hns_encoding::Refusal;
+use hns_encoding::Slice;
+use hns_header_consensus::Answer;
+use hns_header_consensus::Decoded;
+use hns_header_consensus::Header;
+
+fn text(t: &[u8]) {
+    io::write_all(1, t);
+}
+
+fn value(n: u64) {
+    text(b" ");
+    io::print_decimal(1, n);
+}
+
+fn hex(bytes: &[u8]) {
+    text(b" ");
+    let mut i = 0;
+    while i < bytes.len() {
+        io::print_hex(1, bytes[i] as u64, 2);
+        i += 1;
+    }
+}
+
+fn refused(r: Refusal) {
+    text(b": refused");
+    value(r.number);
+    value(r.a);
+    value(r.b);
+    value(r.c);
+    text(b"\n");
+}
+
+// A value and the place after it.
+fn number(name: &[u8], answer: Number) {
+    text(name);
+    match answer {
+        Number::Value(v, next) => {
+            text(b":");
+            value(v);
+            text(b" next");
+            value(next as u64);
+            text(b"\n");
+        }
+        Number::Refused(r) => refused(r),
+    }
+}
+
+fn slice(name: &[u8], answer: Slice) {
+    text(name);
+    match answer {
+        Slice::Part { start, next } => {
+            text(b": from");
+            value(start as u64);
+            text(b" next");
+            value(next as u64);
+            text(b"\n");
+        }
+        Slice::Refused(r) => refused(r),
+    }
+}
+
+fn finished(name: &[u8], answer: Finished) {
+    text(name);
+    match answer {
+        Finished::Done => text(b": done\n"),
+        Finished::Refused(r) => refused(r),
+    }
+}
+
+// The output after a put, and where the next one begins.
+fn put(name: &[u8], out: &[u8], e: Encoder) {
+    text(name);
+    text(b":");
+    hex(out);
+    text(b" next");
+    value(e.position as u64);
+    text(b"\n");
+}
+
+fn numbers() {
+    number(b"u8 of 7f", hns_encoding::read_u8(b"\x7f", 0));
+    number(b"u16 of 0102", hns_encoding::read_u16_le(b"\x01\x02", 0));
+    number(
+        b"u32 of 01020304",
+        hns_encoding::read_u32_le(b"\x01\x02\x03\x04", 0),
+    );
+    number(
+        b"u64 of 0102030405060708",
+        hns_encoding::read_u64_le(b"\x01\x02\x03\x04\x05\x06\x07\x08", 0),
+    );
+    number(
+        b"u64 of ffffffffffffffff",
+        hns_encoding::read_u64_le(b"\xff\xff\xff\xff\xff\xff\xff\xff", 0),
+    );
+    number(b"u64 of 00", hns_encoding::read_u64_le(b"\x00", 0));
+    number(
+        b"u32 of 000102 at 1",
+        hns_encoding::read_u32_le(b"\x00\x01\x02", 1),
+    );
+    number(b"u16 of 00 at 1", hns_encoding::read_u16_le(b"\x00", 1));
+    number(b"u8 of 00 at 9", hns_encoding::read_u8(b"\x00", 9));
+    number(
+        b"u64 of 00 at 2^64 - 1",
+        hns_encoding::read_u64_le(b"\x00", 18_446_744_073_709_551_615),
+    );
+}
+
+fn compact_sizes() {
+    number(b"compact fc", hns_encoding::read_compact_size(b"\xfc", 0));
+    number(
+        b"compact fdfd00",
+        hns_encoding::read_compact_size(b"\xfd\xfd\x00", 0),
+    );
+    number(
+        b"compact fdfc00",
+        hns_encoding::read_compact_size(b"\xfd\xfc\x00", 0),
+    );
+    number(
+        b"compact fd0a00",
+        hns_encoding::read_compact_size(b"\xfd\x0a\x00", 0),
+    );
+    number(
+        b"compact fe00000100",
+        hns_encoding::read_compact_size(b"\xfe\x00\x00\x01\x00", 0),
+    );
+    number(
+        b"compact feffff0000",
+        hns_encoding::read_compact_size(b"\xfe\xff\xff\x00\x00", 0),
+    );
+    number(
+        b"compact ff0000000001000000",
+        hns_encoding::read_compact_size(b"\xff\x00\x00\x00\x00\x01\x00\x00\x00", 0),
+    );
+    number(
+        b"compact ffffffffff00000000",
+        hns_encoding::read_compact_size(b"\xff\xff\xff\xff\xff\x00\x00\x00\x00", 0),
+    );
+    number(
+        b"compact of nothing",
+        hns_encoding::read_compact_size(b"", 0),
+    );
+    number(
+        b"compact fd00",
+        hns_encoding::read_compact_size(b"\xfd\x00", 0),
+    );
+    number(
+        b"compact 00ff at 1",
+        hns_encoding::read_compact_size(b"\x00\xff", 1),
+    );
+}
+
+fn bounded() {
+    number(
+        b"compact fde903 up to 1000",
+        hns_encoding::read_compact_usize(b"\xfd\xe9\x03", 0, 1_000),
+    );
+    number(
+        b"compact fde803 up to 1000",
+        hns_encoding::read_compact_usize(b"\xfd\xe8\x03", 0, 1_000),
+    );
+    slice(
+        b"2 bytes of 010203 at 1",
+        hns_encoding::read_slice(b"\x01\x02\x03", 1, 2),
+    );
+    slice(
+        b"3 bytes of 010203 at 1",
+        hns_encoding::read_slice(b"\x01\x02\x03", 1, 3),
+    );
+    slice(
+        b"no bytes of 01 at 5",
+        hns_encoding::read_slice(b"\x01", 5, 0),
+    );
+    slice(
+        b"2^64 - 1 bytes of 01 at 1",
+        hns_encoding::read_slice(b"\x01", 1, 18_446_744_073_709_551_615),
+    );
+    slice(
+        b"3 bytes of 010203 up to 2",
+        hns_encoding::read_bounded(b"\x01\x02\x03", 0, 3, 2),
+    );
+    slice(
+        b"2 bytes of 01 up to 2",
+        hns_encoding::read_bounded(b"\x01", 0, 2, 2),
+    );
+    slice(
+        b"varbytes 020a0b0c",
+        hns_encoding::read_varbytes(b"\x02\x0a\x0b\x0c", 0, 2),
+    );
+    slice(
+        b"varbytes 030a0b0c up to 2",
+        hns_encoding::read_varbytes(b"\x03\x0a\x0b\x0c", 0, 2),
+    );
+    slice(
+        b"varbytes 030a",
+        hns_encoding::read_varbytes(b"\x03\x0a", 0, 9),
+    );
+    finished(b"finish 00 at 0", hns_encoding::finish(b"\x00", 0));
+    finished(b"finish 00 at 1", hns_encoding::finish(b"\x00", 1));
+    finished(b"finish 00 at 2", hns_encoding::finish(b"\x00", 2));
+}
+
+fn puts() {
+    let mut out = [0xaau8; 4];
+    let e = Encoder::new().put_u8(&mut out, 1);
+    put(b"put u8 1", &out, e);
+    let e = e.put_u16_le(&mut out, 0x0302);
+    put(b"put u16 0302", &out, e);
+    let e = e.put_u32_le(&mut out, 0x0706_0504);
+    put(b"put u32 07060504 with room for one byte", &out, e);
+    let e = e.put_u64_le(&mut out, 0x1122_3344_5566_7788);
+    put(b"put u64 past the end", &out, e);
+    let mut eight = [0xaau8; 9];
+    let e = Encoder::new().put_u64_le(&mut eight, 0x1122_3344_5566_7788);
+    put(b"put u64 1122334455667788", &eight, e);
+    let mut five = [0xaau8; 5];
+    let e = Encoder::new().put_bytes(&mut five, b"\x01\x02\x03");
+    put(b"put bytes 010203", &five, e);
+    let e = Encoder { position: 3 }.put_bytes(&mut five, b"\x0a\x0b\x0c");
+    put(b"put bytes 0a0b0c at 3 of 5", &five, e);
+    let e = Encoder {
+        position: 18_446_744_073_709_551_614,
+    }.put_bytes(&mut five, b"\x01\x02\x03");
+    put(b"put bytes at 2^64 - 2", &five, e);
+}
+
+fn put_compact(name: &[u8], v: u64) {
+    let mut out = [0xaau8; 9];
+    let e = Encoder::new().put_compact_size(&mut out, v);
+    put(name, &out, e);
+}
+
+fn put_compacts() {
+    put_compact(b"put compact 0", 0);
+    put_compact(b"put compact 252", 252);
+    put_compact(b"put compact 253", 253);
+    put_compact(b"put compact 65535", 65_535);
+    put_compact(b"put compact 65536", 65_536);
+    put_compact(b"put compact 2^32 - 1", 4_294_967_295);
+    put_compact(b"put compact 2^32", 4_294_967_296);
+    put_compact(b"put compact 2^64 - 1", 18_446_744_073_709_551_615);
+    let mut out = [0xaau8; 5];
+    let e = Encoder::new().put_varbytes(&mut out, b"\x01\x02\x03");
+    put(b"put varbytes 010203", &out, e);
+}
+
+fn decoded(name: &[u8], d: Decoded) {
+    text(name);
+    let answer = d.answer;
+    match answer {
+        Answer::Done(next) => {
+            text(b": next");
+            value(next as u64);
+            fields(d.header);
+        }
+        Answer::Refused(r) => refused(r),
+    }
+}
+
+fn root(name: &[u8], bytes: [u8; 32]) {
+    text(name);
+    hex(&bytes);
+}
+
+fn fields(h: Header) {
+    text(b" nonce");
+    value(h.nonce as u64);
+    text(b" time");
+    value(h.time);
+    text(b" version");
+    value(h.version as u64);
+    text(b" bits");
+    value(h.bits as u64);
+    let witness_root = h.witness_root;
+    root(b" witness", witness_root);
+    let merkle_root = h.merkle_root;
+    root(b" merkle", merkle_root);
+    text(b"\n");
+}
+
+// The Rust's genesis_header: only time and bits differ from one network to another.
+fn genesis_header(time: u64, bits: u32) -> Header {
+    let witness_root =
+        *b"\x1a\x2c\x60\xb9\x43\x92\x06\x93\x8f\x8d\x78\x23\x78\x2a\xbd\xb8\xb2\x11\xa5\x74\x31\xe9\xc9\xb6\xa6\x36\x5d\x8d\x42\x89\x33\x51";
+    let merkle_root =
+        *b"\x8e\x4c\x97\x56\xfe\xf2\xad\x10\x37\x5f\x36\x0e\x05\x60\xfc\xc7\x58\x7e\xb5\x22\x3d\xdf\x8c\xd7\xc7\xe0\x6e\x60\xa1\x14\x0b\x15";
+    let mut h = Header::default();
+    h.time = time;
+    h.bits = bits;
+    h.witness_root = witness_root;
+    h.merkle_root = merkle_root;
+    h
+}
+
+fn genesis(name: &[u8], time: u64, bits: u32) {
+    let bytes = genesis_header(time, bits).encode();
+    text(name);
+    text(b":");
+    hex(&bytes);
+    text(b"\n");
+    decoded(name, Header::decode(&bytes));
+}
+
+// Each byte is its own place, so that a field that is read or written out of order shows.
+fn count_up(out: &mut [u8]) {
+    let mut i = 0;
+    while i < out.len() {
+        out[i] = (i % 256) as u8;
+        i += 1;
+    }
+}
+
+fn headers_at_places(bytes: &[u8]) {
+    let d = hns_header_consensus::read_header(bytes, 4);
+    let h = d.header;
+    let again = h.encode();
+    decoded(b"header at 4 of 00 to ef", d);
+    text(b"header at 4 of 00 to ef, encoded:");
+    hex(&again);
+    text(b"\n");
+    decoded(
+        b"header at 5 of 00 to ef",
+        hns_header_consensus::read_header(bytes, 5),
+    );
+    decoded(
+        b"header past the end",
+        hns_header_consensus::read_header(bytes, 300),
+    );
+}
+
+fn header_lengths(bytes: &[u8]) {
+    decoded(b"240 bytes", Header::decode(bytes));
+    let n = 235;
+    if n <= bytes.len() {
+        let d = Header::decode(&bytes[..n]);
+        decoded(b"235 bytes", d);
+    }
+}
+
+fn headers() {
+    let mut bytes = [0u8; 240];
+    count_up(&mut bytes);
+    headers_at_places(&bytes);
+    header_lengths(&bytes);
+}
+
+fn main() {
+    numbers();
+    compact_sizes();
+    bounded();
+    puts();
+    put_compacts();
+    genesis(b"mainnet", 1_580_745_078, 0x1c00_ffff);
+    genesis(b"testnet", 1_580_745_079, 0x1d00_ffff);
+    genesis(b"regtest", 1_580_745_080, 0x207f_ffff);
+    genesis(b"simnet", 1_580_745_081, 0x207f_ffff);
+    headers();
+}
