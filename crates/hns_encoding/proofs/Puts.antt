@@ -110,6 +110,11 @@ then {o} {p} {x} {o₁} {p₁} {y} {o₂} {p₂} h a b =
 pub put-length : {o : List ℕ} {p : ℕ} {x : List ℕ} {o₁ : List ℕ} {p₁ : ℕ} → Put o p x o₁ p₁ → length o₁ ≡ length o
 put-length {o} {p} {x} a = ap length (a .bytes) ∙ length-splice o p x
 
+-- nothing is put: the start of a loop
+pub put-none : (o : List ℕ) (p : ℕ) → p < 2 ^ 64 → Put o p [] o p
+unfolding advance
+put-none o p h = record { next = omega arith; bytes = sym (splice-fits o p [] (omega arith) ∙ rw add-zero (take-append-drop p o)) }
+
 -- a run of puts on an output whose length is a usize, as one put of their bytes
 abbrev pub Run : List ℕ → ℕ → List ℕ → List ℕ → ℕ → Type 0
 Run o p x o′ p′ = length o < 2 ^ 64 → Put o p x o′ p′

@@ -3,7 +3,7 @@ ghost use mathlib.Core.Path.{_≡_};
 ghost use mathlib.Core.List.{_∷_, []};
 ghost use Prim.Native.Nat.{_+_, _≤_, _<_, min};
 ghost use lib.ListN.{length};
-ghost use Rattle.hns_encoding.specs.Refusals.{unexpectedEnd, notShortest, trailingBytes, overLimit, headerLength};
+ghost use Rattle.hns_encoding.specs.Refusals.{unexpectedEnd, notShortest, trailingBytes, magicMismatch, payloadTooLarge, streamTooLarge, overLimit, incompleteFrame, headerLength, outputShort, storeShort, heldOver};
 ghost use Rattle.hns_encoding.specs.Bytes.{leBytes, left, bytesAt, leAt, numberAt, endAt};
 ghost use Rattle.hns_encoding.specs.Compact.{compactFrom, compactAt, compactBytes, countAt, boundedAt, varbytesAt, varbytes};
 ghost use Rattle.hns_encoding.specs.Put.{Put, advance};
@@ -24,9 +24,23 @@ impl Refusal {
 
     pub const TRAILING_BYTES: u64 = 3;
 
+    pub const MAGIC_MISMATCH: u64 = 4;
+
+    pub const PAYLOAD_TOO_LARGE: u64 = 5;
+
+    pub const STREAM_TOO_LARGE: u64 = 6;
+
     pub const OVER_LIMIT: u64 = 7;
 
+    pub const INCOMPLETE_FRAME: u64 = 8;
+
     pub const HEADER_LENGTH: u64 = 15;
+
+    pub const OUTPUT_SHORT: u64 = 16;
+
+    pub const STORE_SHORT: u64 = 17;
+
+    pub const HELD_OVER: u64 = 18;
 
     // The bytes end in a field that begins at `offset`.
     pub fn unexpected_end(offset: usize, needed: usize) -> Refusal
@@ -64,6 +78,42 @@ impl Refusal {
         }
     }
 
+    // A frame of another network; the magics as words.
+    pub fn magic_mismatch(expected: u32, found: u32) -> Refusal
+        ensures { λ r. ⌜ r ≡ magicMismatch expected found ⌝ }
+    {
+        Refusal {
+            number: Refusal::MAGIC_MISMATCH,
+            a: expected as u64,
+            b: found as u64,
+            c: 0,
+        }
+    }
+
+    // A payload over 8,000,000 bytes.
+    pub fn payload_too_large(actual: usize) -> Refusal
+        ensures { λ r. ⌜ r ≡ payloadTooLarge actual ⌝ }
+    {
+        Refusal {
+            number: Refusal::PAYLOAD_TOO_LARGE,
+            a: actual as u64,
+            b: 8_000_000,
+            c: 0,
+        }
+    }
+
+    // Held bytes and input over 16,000,018.
+    pub fn stream_too_large(total: usize) -> Refusal
+        ensures { λ r. ⌜ r ≡ streamTooLarge total ⌝ }
+    {
+        Refusal {
+            number: Refusal::STREAM_TOO_LARGE,
+            a: total as u64,
+            b: 16_000_018,
+            c: 0,
+        }
+    }
+
     // A count, an index or a text over its limit, and the code of its field.
     pub fn over_limit(actual: u64, maximum: u64, field: u64) -> Refusal
         ensures { λ r. ⌜ r ≡ overLimit actual maximum field ⌝ }
@@ -76,6 +126,18 @@ impl Refusal {
         }
     }
 
+    // Bytes that should be one frame and end in it.
+    pub fn incomplete_frame(missing: usize) -> Refusal
+        ensures { λ r. ⌜ r ≡ incompleteFrame missing ⌝ }
+    {
+        Refusal {
+            number: Refusal::INCOMPLETE_FRAME,
+            a: missing as u64,
+            b: 0,
+            c: 0,
+        }
+    }
+
     // A header that is not 236 bytes.
     pub fn header_length(actual: usize) -> Refusal
         ensures { λ r. ⌜ r ≡ headerLength actual ⌝ }
@@ -83,6 +145,42 @@ impl Refusal {
         Refusal {
             number: Refusal::HEADER_LENGTH,
             a: actual as u64,
+            b: 0,
+            c: 0,
+        }
+    }
+
+    // An output that is too short for what is written.
+    pub fn output_short(needed: usize) -> Refusal
+        ensures { λ r. ⌜ r ≡ outputShort needed ⌝ }
+    {
+        Refusal {
+            number: Refusal::OUTPUT_SHORT,
+            a: needed as u64,
+            b: 0,
+            c: 0,
+        }
+    }
+
+    // A store that is too short for the held bytes and the input.
+    pub fn store_short(needed: usize) -> Refusal
+        ensures { λ r. ⌜ r ≡ storeShort needed ⌝ }
+    {
+        Refusal {
+            number: Refusal::STORE_SHORT,
+            a: needed as u64,
+            b: 0,
+            c: 0,
+        }
+    }
+
+    // More held bytes than the store has.
+    pub fn held_over(held: usize) -> Refusal
+        ensures { λ r. ⌜ r ≡ heldOver held ⌝ }
+    {
+        Refusal {
+            number: Refusal::HELD_OVER,
+            a: held as u64,
             b: 0,
             c: 0,
         }

@@ -1,0 +1,9 @@
+pub mod Slices
+pub mod Fronts
+pub mod Walks
+pub mod Answers
+pub mod Turns
+pub mod Pushes
+pub mod Settles
+pub mod Demand3
+pub mod Worked

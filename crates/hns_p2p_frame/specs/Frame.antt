@@ -1,0 +1,110 @@
+-- Document 01, 'The frame': magic (4 bytes), type (1), payload length (4), payload; what a list of bytes begins with, and the wrapper that refuses more.
+use Prim.Native.Nat.{ℕ, _+_, _-_, _≤_, _<_}
+use mathlib.Core.List.{List, [], _∷_, _++_}
+use mathlib.Core.Bool.{Bool, true, false, _&&_}
+use lib.ListN.{length, getD, take, drop}
+use lib.Dec.{leb, eqb}
+use Rattle.hns_encoding.specs.declared.Refusal.{Refusal}
+use Rattle.hns_encoding.specs.Refusals.{trailingBytes, magicMismatch, payloadTooLarge, incompleteFrame, outputShort}
+use Rattle.hns_encoding.specs.Bytes.{le, leBytes, Bytes, choose, part, Outcome, got, stop}
+use Rattle.hns_encoding.specs.Put.{splice}
+use Rattle.hns_p2p_frame.specs.declared.NetworkMagic.{NetworkMagic}
+use Rattle.hns_p2p_frame.specs.declared.NetworkMagic.the-variants.{Mainnet, Testnet, Regtest, Simnet}
+use Rattle.hns_p2p_frame.specs.declared.Encoded.{Encoded}
+use Rattle.hns_p2p_frame.specs.declared.Encoded.the-variants as E
+
+unfoldable pub magic : NetworkMagic → List ℕ
+magic Mainnet = 0xd3 ∷ 0xf2 ∷ 0x6e ∷ 0x5b ∷ []
+magic Testnet = 0xd2 ∷ 0x0d ∷ 0x52 ∷ 0xb1 ∷ []
+magic Regtest = 0xcf ∷ 0x95 ∷ 0x38 ∷ 0xae ∷ []
+magic Simnet = 0xdc ∷ 0x8e ∷ 0x64 ∷ 0x0e ∷ []
+
+pub record Frame : Type 0 where
+  pub kind : ℕ
+  pub payload : List ℕ
+
+-- a type that is a byte, and at most 8,000,000 bytes of payload
+pub record WellFormed (f : Frame) : Type 0 where
+  pub kind-byte : f .kind < 256
+  pub payload-bytes : Bytes (f .payload)
+  pub within : length (f .payload) ≤ 8000000
+
+-- 'An encoding is the network's magic, type, payload length and payload.'
+unfoldable pub encode : NetworkMagic → Frame → List ℕ
+encode net f = magic net ++ (f .kind ∷ (leBytes 4 (length (f .payload)) ++ f .payload))
+
+-- the encodings of frames, in order
+unfoldable pub encodings : NetworkMagic → List Frame → List ℕ
+encodings net [] = []
+encodings net (f ∷ fs) = encode net f ++ encodings net fs
+
+-- ---- the frame at the front
+
+-- what bytes begin with: not yet a frame, a frame and the bytes after it, or a bad header
+pub data Front : Type 0 where
+  notYet : Front
+  whole : Frame → List ℕ → Front
+  bad : Refusal → Front
+
+-- two strings of bytes are the same
+unfoldable pub same : List ℕ → List ℕ → Bool
+same [] [] = true
+same [] (y ∷ ys) = false
+same (x ∷ xs) [] = false
+same (x ∷ xs) (y ∷ ys) = eqb x y && same xs ys
+
+-- the payload length that a header says
+unfoldable pub payloadLength : List ℕ → ℕ
+payloadLength xs = le (part xs 5 4)
+
+-- the frame that bytes begin with, where their header is good and its payload is there
+abbrev pub frameOf : List ℕ → Frame
+frameOf xs = record { kind = getD xs 4 0; payload = part xs 9 (payloadLength xs) }
+
+-- not yet below 9 bytes, even if the magic is already wrong; then a bad header, 4 before 5, whether or not its payload is there; not yet while the payload is incomplete, otherwise the frame
+unfoldable pub front : NetworkMagic → List ℕ → Front
+front net xs =
+    choose (leb 9 (length xs))
+    (choose (same (take 4 xs) (magic net))
+    (choose (leb (payloadLength xs) 8000000)
+    (choose (leb (9 + payloadLength xs) (length xs)) (whole (frameOf xs) (drop (9 + payloadLength xs) xs)) notYet)
+    (bad (payloadTooLarge (payloadLength xs))))
+    (bad (magicMismatch (le (magic net)) (le (take 4 xs)))))
+    notYet
+
+-- the payload of the frame at the front; none where there is no frame
+unfoldable pub payloadOf : Front → List ℕ
+payloadOf notYet = []
+payloadOf (whole f rest) = f .payload
+payloadOf (bad r) = []
+
+-- ---- exactly one frame
+
+-- how many bytes a frame lacks that is not yet there
+unfoldable pub missing : List ℕ → ℕ
+missing xs = choose (leb 9 (length xs)) (9 + payloadLength xs - length xs) (9 - length xs)
+
+-- the wrapper that refuses more: 8 for not yet, 3 for bytes after the frame
+unfoldable pub exactly : List ℕ → Front → Outcome Frame
+exactly xs notYet = stop (incompleteFrame (missing xs))
+exactly xs (whole f rest) = choose (eqb (length rest) 0) (got f (length xs)) (stop (trailingBytes (length rest)))
+exactly xs (bad r) = stop r
+
+unfoldable pub decodeExact : NetworkMagic → List ℕ → Outcome Frame
+decodeExact net xs = exactly xs (front net xs)
+
+-- ---- writing
+
+-- what the frame writer answers, and what the output holds after it
+pub record Written : Type 0 where
+  pub answer : Encoded
+  pub output : List ℕ
+
+-- 'Writers test .. 5, 16. An accepted call that writes fills its answer's bytes from the output's front and changes no others there.'
+unfoldable pub writeFrame : NetworkMagic → Frame → List ℕ → Written
+writeFrame net f o =
+    choose (leb (length (f .payload)) 8000000)
+    (choose (leb (length (encode net f)) (length o))
+    (record { answer = E.Written (length (encode net f)); output = splice o 0 (encode net f) })
+    (record { answer = E.Refused (outputShort (length (encode net f))); output = o }))
+    (record { answer = E.Refused (payloadTooLarge (length (f .payload))); output = o })

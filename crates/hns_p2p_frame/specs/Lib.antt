@@ -1,0 +1,5 @@
+pub mod Frame
+pub mod Walk
+pub mod Push
+pub mod Answers
+pub mod Stream

@@ -1,0 +1,99 @@
+-- How the loops over digits meet the definitions of the export's text. Assumes nothing.
+use Prim.Native.Nat.{ℕ, zero, suc, _+_, _*_, _/_, _%_, _^_, _≤_, _<_}
+use mathlib.Core.Path.{_≡_, refl, ap, _∙_}
+use mathlib.Core.List.{List, [], _∷_, _++_, append-assoc, map, reverse}
+use native.Mathlib.Omega.{arith}
+use native.Mathlib.Nat.{pow-suc}
+use native.Mathlib.Numerals.{add-one}
+use lib.ListN.{length, take, drop, getD, set, length-set}
+use lib.Seq.{take-suc, drop-cons, getD-set-same, drop-set-lt}
+use borrow.Author.Tests.{le-ltb, lt-ltb}
+use Rattle.hns_encoding.specs.Bytes.{leBytes}
+use Rattle.hns_encoding.specs.Put.{Put}
+use Rattle.hns_encoding.proofs.Puts.{then, put-length}
+use Rattle.survey_export.specs.Text.{digit, hex, space, hexPayload, decimalUpTo, decimal}
+
+-- ---- the table of sixteen
+
+counting : ℕ → ℕ → List ℕ
+counting zero i = []
+counting (suc n) i = i ∷ counting n (suc i)
+
+abbrev pub table : List ℕ
+table = 48 ∷ 49 ∷ 50 ∷ 51 ∷ 52 ∷ 53 ∷ 54 ∷ 55 ∷ 56 ∷ 57 ∷ 97 ∷ 98 ∷ 99 ∷ 100 ∷ 101 ∷ 102 ∷ []
+
+-- each entry is the digit of its place: the whole table at once
+table-is : table ≡ map digit (counting 16 0)
+unfolding counting digit
+table-is = refl
+
+counted : (n i k : ℕ) → k < n → (f : ℕ → ℕ) → getD (map f (counting n i)) k 0 ≡ f (i + k)
+unfolding counting
+counted zero i k h f = absurd (omega arith)
+counted (suc n) i zero h f = ap f (omega arith)
+counted (suc n) i (suc k) h f = counted n (suc i) k (omega arith) f ∙ ap f (omega arith)
+
+pub table-digit : (d : ℕ) → d < 16 → getD table d 0 ≡ digit d
+table-digit d h = ap (λ (t : List ℕ). getD t d 0) table-is ∙ (counted 16 0 d h digit ∙ ap digit (omega arith))
+
+-- ---- a turn of the loop over bytes
+
+hex-append : (x y : List ℕ) → hex (x ++ y) ≡ hex x ++ hex y
+unfolding hex
+hex-append [] y = refl
+hex-append (b ∷ x) y = rw (hex-append x y)
+
+pub hex-turn : {o : List ℕ} {p : ℕ} {o₁ : List ℕ} {p₁ : ℕ} {o₂ : List ℕ} {p₂ : ℕ} {o₃ : List ℕ} {p₃ : ℕ} (s : List ℕ) (i : ℕ) {a b : ℕ} → length o < 2 ^ 64 → i < length s
+    → a ≡ digit (getD s i 0 / 16) → b ≡ digit (getD s i 0 % 16)
+    → Put o p (hex (take i s)) o₁ p₁ → Put o₁ p₁ (a ∷ []) o₂ p₂ → Put o₂ p₂ (b ∷ []) o₃ p₃ → Put o p (hex (take (i + 1) s)) o₃ p₃
+unfolding hex
+hex-turn s i h l high low first second third =
+    rw (add-one, take-suc s i 0 l, hex-append, ← high, ← low) (then h first (then (rw (put-length first) h) second third))
+
+-- ---- turns of the loop over decimal digits
+
+drop-set : (text : List ℕ) (i d : ℕ) → i < length text → drop i (set text i d) ≡ d ∷ drop (i + 1) text
+drop-set text i d l = drop-cons (set text i d) i 0 (rw length-set l) ∙ rw (getD-set-same text i d 0 l, drop-set-lt (suc i) text i d (omega arith), add-one)
+
+decimal-last : (k n : ℕ) → n < 10 → decimalUpTo (suc k) n ≡ (48 + n) ∷ []
+unfolding decimalUpTo
+decimal-last k n h = simp (lt-ltb _ _ h)
+
+-- while more than one digit is left, there is a place for it
+pub rest-turn : (i rest : ℕ) → 10 ≤ rest → rest < 10 ^ (i + 1) → (0 < i) × (rest / 10 < 10 ^ i)
+rest-turn zero rest h k = absurd (omega arith)
+rest-turn (suc i) rest h k = let bound : rest < 10 ^ suc i * 10 = rw (add-one, pow-suc) at k in (omega arith, omega arith)
+
+pub decimal-turn : (i n rest : ℕ) (text : List ℕ) {d : ℕ} → 10 ≤ rest → i < length text → d ≡ 48 + rest % 10
+    → decimalUpTo (i + 1) rest ++ drop (i + 1) text ≡ decimal n → decimalUpTo i (rest / 10) ++ drop i (set text i d) ≡ decimal n
+unfolding decimalUpTo
+decimal-turn i n rest text {d} h l e so-far =
+    let more : decimalUpTo (i + 1) rest ≡ decimalUpTo i (rest / 10) ++ (d ∷ []) = rw (add-one, e) (simp (le-ltb _ _ h)) in
+    rw (drop-set text i d l, ← append-assoc (decimalUpTo i (rest / 10)) (d ∷ []) (drop (i + 1) text), ← more) so-far
+
+-- at the end the last digit goes before those in the text
+pub decimal-end : (i n rest : ℕ) (text : List ℕ) {d : ℕ} → rest < 10 → i < length text → d ≡ 48 + rest
+    → decimalUpTo (i + 1) rest ++ drop (i + 1) text ≡ decimal n → drop i (set text i d) ≡ decimal n
+decimal-end i n rest text {d} h l e so-far =
+    let last : decimalUpTo (i + 1) rest ≡ d ∷ [] = rw (add-one, e) (decimal-last i rest h) in
+    rw (drop-set text i d l) (rw last at so-far)
+
+-- ---- the parts of a line
+
+pub payload-none : (s : List ℕ) → length s ≡ 0 → hexPayload s ≡ []
+unfolding hexPayload
+payload-none [] e = refl
+payload-none (b ∷ s) e = absurd (omega arith)
+
+pub payload-some : (s : List ℕ) → (length s ≡ 0 → ⊥) → hexPayload s ≡ space ∷ hex s
+unfolding hexPayload
+payload-some [] ne = absurd (ne refl)
+payload-some (b ∷ s) ne = refl
+
+-- four bytes, highest first
+pub highest-first : (n : ℕ) → (n / 16777216 % 256) ∷ (n / 65536 % 256) ∷ (n / 256 % 256) ∷ (n % 256) ∷ [] ≡ reverse (leBytes 4 n)
+unfolding leBytes
+highest-first n =
+    let two : n / 65536 ≡ n / 256 / 256 = omega arith in
+    let three : n / 16777216 ≡ n / 256 / 256 / 256 = omega arith in
+    rw (two, three)

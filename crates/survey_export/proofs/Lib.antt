@@ -1,0 +1,5 @@
+pub mod Digits
+pub mod Determined
+pub mod Lines
+pub mod Chunks
+pub mod Agreement

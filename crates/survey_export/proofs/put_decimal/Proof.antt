@@ -1,0 +1,105 @@
+-- `survey_export::put_decimal` meets its contract: the digits of what is left and those in the text are those of the number.
+use Prim.Native.Nat.{_+_, _-_, _/_, _^_, _<_}
+use mathlib.Core.Path.{_≡_, refl, _∙_}
+use mathlib.Core.List.{_++_, append-nil}
+use native.Mathlib.Omega.{arith}
+use lib.ListN.{length, take, drop, set, length-set, length-drop}
+use lib.Seq.{take-all}
+use borrow.Author.Needs.{needs}
+use Rattle.hns_encoding.proofs.Puts.{put-length}
+use Rattle.survey_export.specs.Text.{decimalUpTo, decimal}
+use Rattle.survey_export.proofs.Digits.{rest-turn, decimal-turn, decimal-end}
+use Rattle.survey_export.proofs.put_decimal.Statement.{statement}
+use Rattle.survey_export.proofs.put_decimal.Tie as tie
+
+abbrev Inv-loop : tie.InvT-loop
+Inv-loop encoder out n text₀ rest₀ i₀ text rest i = (i < 20) × ((length text ≡ 20) × ((rest < 10 ^ (i + 1)) × (decimalUpTo (i + 1) rest ++ drop (i + 1) text ≡ decimal n)))
+
+abbrev μ-loop : tie.MeasureT-loop
+μ-loop encoder out n text₀ rest₀ i₀ text rest i = rest
+
+more : (c : tie.In-loop Inv-loop μ-loop) → (0 < c .before .loop .i) × (c .before .loop .rest / 10 < 10 ^ c .before .loop .i)
+more c = rest-turn (c .before .loop .i) (c .before .loop .rest) (c .loop-test .taken) (c .before .loop .inv .1 .1 .0)
+
+loop-holds : tie.Need-loop-holds Inv-loop μ-loop
+unfolding decimal
+loop-holds c = (omega arith, (refl, (omega arith, append-nil _)))
+
+add-text : tie.Need-add-text Inv-loop μ-loop
+add-text c = omega arith
+
+cast-text : tie.Need-cast-text Inv-loop μ-loop
+cast-text c = omega arith
+
+array-write-text : tie.Need-array-write-text Inv-loop μ-loop
+array-write-text c = omega arith
+
+sub-i : tie.Need-sub-i Inv-loop μ-loop
+sub-i c = omega (arith, more c)
+
+loop-less : tie.Need-loop-less Inv-loop μ-loop
+loop-less c = omega arith
+
+loop-again : tie.Need-loop-again Inv-loop μ-loop
+loop-again c =
+    let l = c .before .loop in
+    let t = more c in
+    let place : l .i - 1 + 1 ≡ l .i = omega arith in
+    rw place (omega arith, (length-set (l .text) (l .i) _ ∙ l .inv .1 .0, (t .1, decimal-turn (l .i) (c .before .before .before .args .n) (l .rest) (l .text) (c .loop-test .taken) (omega arith) refl (l .inv .1 .1 .1))))
+
+add-text-2 : tie.Need-add-text-2 Inv-loop μ-loop
+add-text-2 c = omega arith
+
+cast-text-2 : tie.Need-cast-text-2 Inv-loop μ-loop
+cast-text-2 c = omega arith
+
+array-write-text-2 : tie.Need-array-write-text-2 Inv-loop μ-loop
+array-write-text-2 c = omega arith
+
+sub-put-bytes : tie.Need-sub-put-bytes Inv-loop μ-loop
+sub-put-bytes c = omega arith
+
+part-put-bytes-start : tie.Need-part-put-bytes-start Inv-loop μ-loop
+part-put-bytes-start c = search needs
+
+part-put-bytes-end : tie.Need-part-put-bytes-end Inv-loop μ-loop
+part-put-bytes-end c = simp length-set (omega (arith, c .before .before .before .loop .inv .1 .0))
+
+put-bytes-requires : tie.Need-put-bytes-requires Inv-loop μ-loop
+put-bytes-requires c κs = tt
+
+returns : tie.Need-returns Inv-loop μ-loop
+returns c =
+    let a = c .before .before .before .before .before .before .before .before .before .args in
+    let l = c .before .before .before .before .before .before .before .loop in
+    let text = set (l .text) (l .i) (48 + l .rest) in
+    let all : take (20 - l .i) (drop (l .i) (set (l .text) (l .i) (48 + l .rest))) ≡ drop (l .i) (set (l .text) (l .i) (48 + l .rest)) =
+    take-all (20 - l .i) _ (simp (length-drop, length-set) (omega (arith, l .inv .1 .0))) in
+    let digits = decimal-end (l .i) (a .n) (l .rest) (l .text) (c .before .before .before .before .before .before .loop-test .left) (omega arith) refl (l .inv .1 .1 .1) in
+    rw (all, digits) at (c .before .before .put-bytes .ensures)
+
+same-length : tie.Need-same-length Inv-loop μ-loop
+same-length c = put-length (returns c)
+
+pub put-decimal-spec : {M : Type 1} → statement M
+put-decimal-spec =
+    tie.close
+    (tie.spec
+    Inv-loop
+    μ-loop
+    loop-holds
+    add-text
+    cast-text
+    array-write-text
+    sub-i
+    loop-less
+    loop-again
+    add-text-2
+    cast-text-2
+    array-write-text-2
+    sub-put-bytes
+    part-put-bytes-start
+    part-put-bytes-end
+    put-bytes-requires
+    same-length
+    returns)

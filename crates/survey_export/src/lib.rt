@@ -1,0 +1,166 @@
+// The exported survey: the lines of a push, and a survey's last line.
+use hns_encoding::Encoder;
+use hns_p2p_frame::NetworkMagic;
+use hns_p2p_frame::Prefix;
+use hns_p2p_frame::Pushed;
+ghost use mathlib.Core.Path.{_≡_};
+ghost use lib.ListN.{take};
+ghost use Rattle.hns_encoding.specs.Put.{Put};
+ghost use Rattle.survey_export.specs.Survey.{lines, framesOf, takeChunk};
+ghost use Rattle.survey_export.specs.Text.{hex, hexPayload, line, decimal, lastLine, heldLine, stopLine};
+
+// What a chunk led to: lines, the held count and where the text goes on; or the line of a stop, and where that ends.
+pub enum Step {
+    Lines { held: usize, position: usize },
+    Stop { position: usize },
+}
+
+const DIGITS: [u8; 16] = *b"0123456789abcdef";
+
+// Bytes as digits. The table is taken before the loop, which then keeps it at hand.
+fn put_hex(encoder: Encoder, out: &mut [u8], bytes: &[u8]) -> Encoder
+    ensures { λ r. ⌜ Put (now (out .entry)) (encoder .position) (hex (now (bytes .entry))) (now (out .exit)) (r .position) ⌝ }
+{
+    let digits = DIGITS;
+    let mut e = encoder;
+    let mut i = 0;
+    while i < bytes.len() {
+        let b = bytes[i];
+        let high = (b / 16) as usize;
+        let low = (b % 16) as usize;
+        e = e.put_u8(out, digits[high]);
+        e = e.put_u8(out, digits[low]);
+        i += 1;
+    }
+    e
+}
+
+fn put_payload(encoder: Encoder, out: &mut [u8], payload: &[u8]) -> Encoder
+    ensures { λ r. ⌜ Put (now (out .entry)) (encoder .position) (hexPayload (now (payload .entry))) (now (out .exit)) (r .position) ⌝ }
+{
+    if payload.len() == 0 {
+        return encoder;
+    }
+    let e = encoder.put_u8(out, 32);
+    put_hex(e, out, payload)
+}
+
+// The line of a frame.
+pub fn put_line(encoder: Encoder, out: &mut [u8], kind: u8, payload: &[u8]) -> Encoder
+    ensures { λ r. ⌜ Put (now (out .entry)) (encoder .position) (line kind (now (payload .entry))) (now (out .exit)) (r .position) ⌝ }
+{
+    let n = payload.len();
+    let high = (n / 16_777_216 % 256) as u8;
+    let upper = (n / 65_536 % 256) as u8;
+    let lower = (n / 256 % 256) as u8;
+    let low = (n % 256) as u8;
+    let e = put_hex(encoder, out, &[kind]);
+    let e = e.put_u8(out, 32);
+    let e = put_hex(e, out, &[high, upper, lower, low]);
+    let e = put_payload(e, out, payload);
+    e.put_u8(out, 10)
+}
+
+// A number in decimal.
+fn put_decimal(encoder: Encoder, out: &mut [u8], n: u64) -> Encoder
+    ensures { λ r. ⌜ Put (now (out .entry)) (encoder .position) (decimal n) (now (out .exit)) (r .position) ⌝ }
+{
+    let mut text = [0u8; 20];
+    let mut rest = n;
+    let mut i: usize = 19;
+    while 10 <= rest {
+        text[i] = (48 + rest % 10) as u8;
+        rest /= 10;
+        i -= 1;
+    }
+    text[i] = (48 + rest) as u8;
+    encoder.put_bytes(out, &text[i..])
+}
+
+fn put_last(encoder: Encoder, out: &mut [u8], word: &[u8], n: u64) -> Encoder
+    ensures { λ r. ⌜ Put (now (out .entry)) (encoder .position) (lastLine (now (word .entry)) n) (now (out .exit)) (r .position) ⌝ }
+{
+    let e = encoder.put_bytes(out, word);
+    let e = put_decimal(e, out, n);
+    e.put_u8(out, 10)
+}
+
+// The last line of a survey whose pushes were all accepted.
+pub fn put_held(encoder: Encoder, out: &mut [u8], held: u64) -> Encoder
+    ensures { λ r. ⌜ Put (now (out .entry)) (encoder .position) (heldLine held) (now (out .exit)) (r .position) ⌝ }
+{
+    put_last(encoder, out, b"held ", held)
+}
+
+// The last line of a survey whose last push was refused.
+pub fn put_stop(encoder: Encoder, out: &mut [u8], number: u64) -> Encoder
+    ensures { λ r. ⌜ Put (now (out .entry)) (encoder .position) (stopLine number) (now (out .exit)) (r .position) ⌝ }
+{
+    put_last(encoder, out, b"stop ", number)
+}
+
+// The lines of the frames that a slice begins with.
+fn put_lines(encoder: Encoder, out: &mut [u8], frames: &[u8]) -> Encoder
+    ensures { λ r. ⌜ Put (now (out .entry)) (encoder .position) (lines (framesOf (now (frames .entry)))) (now (out .exit)) (r .position) ⌝ }
+{
+    let mut e = encoder;
+    let mut at: usize = 0;
+    loop {
+        let rest = &frames[at..];
+        match hns_p2p_frame::decode_frame_prefix(NetworkMagic::Mainnet, rest) {
+            Prefix::NotYet => return e,
+            Prefix::Refused(_) => return e,
+            Prefix::Frame {
+                kind,
+                length: _,
+                taken,
+            } => {
+                let payload = hns_p2p_frame::payload(NetworkMagic::Mainnet, rest);
+                e = put_line(e, out, kind, payload);
+                at += taken;
+            }
+        }
+    }
+}
+
+// The first n bytes, or all where there are fewer.
+pub fn first(bytes: &[u8], n: usize) -> &[u8]
+    ensures { λ r. ⌜ now r ≡ take n (now (bytes .entry)) ⌝ }
+{
+    if n < bytes.len() { &bytes[..n] } else { bytes }
+}
+
+// Pushes a chunk of a mainnet log and puts the lines of what it delivered, or of its refusal, into the text.
+pub fn take_chunk(
+    store: &mut [u8],
+    held: usize,
+    chunk: &[u8],
+    output: &mut [u8],
+    text: &mut [u8],
+    encoder: Encoder,
+) -> Step
+    ensures { λ r. ⌜ r ≡ takeChunk (now (store .entry)) held (now (chunk .entry)) (now (output .entry)) (now (text .entry)) (encoder .position) .answer ⌝ }
+    ensures { λ _. ⌜ now (store .exit) ≡ takeChunk (now (store .entry)) held (now (chunk .entry)) (now (output .entry)) (now (text .entry)) (encoder .position) .store ⌝ }
+    ensures { λ _. ⌜ now (output .exit) ≡ takeChunk (now (store .entry)) held (now (chunk .entry)) (now (output .entry)) (now (text .entry)) (encoder .position) .output ⌝ }
+    ensures { λ _. ⌜ now (text .exit) ≡ takeChunk (now (store .entry)) held (now (chunk .entry)) (now (output .entry)) (now (text .entry)) (encoder .position) .text ⌝ }
+{
+    match hns_p2p_frame::push(NetworkMagic::Mainnet, store, held, chunk, output) {
+        Pushed::Accepted {
+            frames: _,
+            bytes,
+            held,
+        } => {
+            let e = put_lines(encoder, text, first(output, bytes));
+            Step::Lines {
+                held,
+                position: e.position,
+            }
+        }
+        Pushed::Refused { refusal, held: _ } => {
+            let e = put_stop(encoder, text, refusal.number);
+            Step::Stop {
+                position: e.position,
+            }
+        }
+    }
+}
