@@ -7,7 +7,7 @@ use lib.Pow.{pow-add}
 use mathlib.Core.Bool.{Bool, true, false}
 use lib.Arith.{digits-lt}
 use lib.Dec.{leb}
-use lib.ListN.{length, getD}
+use lib.ListN.{length, getD, replicate}
 use borrow.Author.Tests.{le-leb, lt-leb, lt-ltb, le-ltb, eq-eqb, ne-eqb}
 use Rattle.hns_encoding.specs.declared.Refusal.{Refusal}
 use Rattle.hns_encoding.specs.declared.Number.{Number}
@@ -15,7 +15,7 @@ use Rattle.hns_encoding.specs.declared.Number.the-variants as N
 use Rattle.hns_encoding.specs.declared.Slice.the-variants as S
 use Rattle.hns_encoding.specs.declared.Finished.the-variants as F
 use Rattle.hns_encoding.specs.Refusals.{unexpectedEnd, notShortest, trailingBytes, overLimit}
-use Rattle.hns_encoding.specs.Bytes.{le, Outcome, got, stop, after, choose, part, bytesAt, leAt, numberAt, endAt}
+use Rattle.hns_encoding.specs.Bytes.{le, Outcome, got, stop, after, choose, part, bytesAt, leAt, numberAt, rawAt, endAt}
 use Rattle.hns_encoding.specs.Compact.{wideAt, compactFrom, compactAt, countAt, boundedAt, varbytesAt}
 use Rattle.hns_encoding.specs.Answers.{numberOf, sliceOf, finishedOf, shortestOf, Read}
 use Rattle.hns_encoding.proofs.Numbers.{part-length, le-part-add, byte-part, le-one}
@@ -40,6 +40,14 @@ module _ (n : ℕ) (s : List ℕ) (p : ℕ) where
   pub number-short : length s - p < n → 0 ≡ numberAt n s p
   unfolding numberAt
   number-short h = simp (lt-leb _ _ h)
+
+  pub raw-there : n ≤ length s - p → rawAt n s p ≡ part s p n
+  unfolding rawAt
+  raw-there h = simp (le-leb _ _ h)
+
+  pub raw-missing : length s - p < n → replicate n 0 ≡ rawAt n s p
+  unfolding rawAt
+  raw-missing h = simp (lt-leb _ _ h)
 
   pub le-fits : n ≤ length s - p → (v : ℕ) → v ≡ numberAt n s p → N.Value v (p + n) ≡ numberOf (leAt n s p)
   unfolding numberOf leAt bytesAt

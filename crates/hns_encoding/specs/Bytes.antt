@@ -2,7 +2,7 @@
 use Prim.Native.Nat.{ℕ, zero, suc, _+_, _-_, _*_, _<_, _%_, _/_}
 use mathlib.Core.List.{List, [], _∷_}
 use mathlib.Core.Bool.{Bool, true, false}
-use lib.ListN.{length, take, drop}
+use lib.ListN.{length, take, drop, replicate}
 use lib.Dec.{leb, eqb}
 use Rattle.hns_encoding.specs.declared.Refusal.{Refusal}
 use Rattle.hns_encoding.specs.Refusals.{unexpectedEnd, trailingBytes}
@@ -57,6 +57,10 @@ leAt n s at = after (bytesAt n s at) (λ bs next. got (le bs) next)
 -- the number of n bytes at a place, or 0 where they are not all there
 unfoldable pub numberAt : ℕ → List ℕ → ℕ → ℕ
 numberAt n s at = choose (leb n (left s at)) (le (part s at n)) 0
+
+-- n bytes at a place, or zeros where they are not all there
+unfoldable pub rawAt : ℕ → List ℕ → ℕ → List ℕ
+rawAt n s at = choose (leb n (left s at)) (part s at n) (replicate n 0)
 
 -- after the last field no byte is left
 unfoldable pub endAt : List ℕ → ℕ → Outcome (Unit {0})

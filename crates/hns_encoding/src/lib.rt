@@ -4,7 +4,7 @@ ghost use mathlib.Core.List.{_∷_, []};
 ghost use Prim.Native.Nat.{_+_, _≤_, _<_, min};
 ghost use lib.ListN.{length};
 ghost use Rattle.hns_encoding.specs.Refusals.{unexpectedEnd, notShortest, trailingBytes, magicMismatch, payloadTooLarge, streamTooLarge, overLimit, incompleteFrame, headerLength, outputShort, storeShort, heldOver};
-ghost use Rattle.hns_encoding.specs.Bytes.{leBytes, left, bytesAt, leAt, numberAt, endAt};
+ghost use Rattle.hns_encoding.specs.Bytes.{leBytes, left, bytesAt, leAt, numberAt, rawAt, endAt};
 ghost use Rattle.hns_encoding.specs.Compact.{compactFrom, compactAt, compactBytes, countAt, boundedAt, varbytesAt, varbytes};
 ghost use Rattle.hns_encoding.specs.Put.{Put, advance};
 ghost use Rattle.hns_encoding.specs.Answers.{numberOf, sliceOf, finishedOf, shortestOf, Read};
@@ -287,6 +287,31 @@ pub fn u64_at(input: &[u8], at: usize) -> u64
     le64(input, at)
 }
 
+// Bytes at a place as an array: zeros where they are not all there.
+pub fn array24_at(input: &[u8], at: usize) -> [u8; 24]
+    ensures { λ r. ⌜ r ≡ rawAt 24 (now (input .entry)) at ⌝ }
+{
+    let mut out = [0u8; 24];
+    if remaining(input, at) < 24 {
+        return out;
+    }
+    let end = at + 24;
+    Encoder::new().put_bytes(&mut out, &input[at..end]);
+    out
+}
+
+pub fn array32_at(input: &[u8], at: usize) -> [u8; 32]
+    ensures { λ r. ⌜ r ≡ rawAt 32 (now (input .entry)) at ⌝ }
+{
+    let mut out = [0u8; 32];
+    if remaining(input, at) < 32 {
+        return out;
+    }
+    let end = at + 32;
+    Encoder::new().put_bytes(&mut out, &input[at..end]);
+    out
+}
+
 // The place of n bytes, or where they end.
 pub fn read_slice(input: &[u8], position: usize, length: usize) -> Slice
     ensures { λ r. ⌜ r ≡ sliceOf (bytesAt length (now (input .entry)) position) ⌝ }
@@ -463,37 +488,86 @@ impl Encoder {
         }
     }
 
+    // A store where the output is long enough: the bytes of a number become one.
+    fn set_u8(self, out: &mut [u8], value: u8) -> Encoder
+        requires { ⌜ self .position + 1 ≤ length (now out) ⌝ }
+        ensures { λ r. ⌜ Put (now (out .entry)) (self .position) (value ∷ []) (now (out .exit)) (r .position) ⌝ }
+        ensures { λ r. ⌜ r .position ≡ self .position + 1 ⌝ }
+    {
+        let at = self.position;
+        out[at] = value;
+        Encoder { position: at + 1 }
+    }
+
+    fn set_u16(self, out: &mut [u8], value: u16) -> Encoder
+        requires { ⌜ self .position + 2 ≤ length (now out) ⌝ }
+        ensures { λ r. ⌜ Put (now (out .entry)) (self .position) (leBytes 2 value) (now (out .exit)) (r .position) ⌝ }
+        ensures { λ r. ⌜ r .position ≡ self .position + 2 ⌝ }
+    {
+        let low = self.set_u8(out, (value % 256) as u8);
+        low.set_u8(out, (value / 256) as u8)
+    }
+
+    fn set_u32(self, out: &mut [u8], value: u32) -> Encoder
+        requires { ⌜ self .position + 4 ≤ length (now out) ⌝ }
+        ensures { λ r. ⌜ Put (now (out .entry)) (self .position) (leBytes 4 value) (now (out .exit)) (r .position) ⌝ }
+        ensures { λ r. ⌜ r .position ≡ self .position + 4 ⌝ }
+    {
+        let low = self.set_u16(out, (value % 65_536) as u16);
+        low.set_u16(out, (value / 65_536) as u16)
+    }
+
+    fn set_u64(self, out: &mut [u8], value: u64) -> Encoder
+        requires { ⌜ self .position + 8 ≤ length (now out) ⌝ }
+        ensures { λ r. ⌜ Put (now (out .entry)) (self .position) (leBytes 8 value) (now (out .exit)) (r .position) ⌝ }
+        ensures { λ r. ⌜ r .position ≡ self .position + 8 ⌝ }
+    {
+        let low = self.set_u32(out, (value % 4_294_967_296) as u32);
+        low.set_u32(out, (value / 4_294_967_296) as u32)
+    }
+
     // A byte past the end of the output is counted and not stored, here and in every other put.
     pub fn put_u8(self, out: &mut [u8], value: u8) -> Encoder
         ensures { λ r. ⌜ Put (now (out .entry)) (self .position) (value ∷ []) (now (out .exit)) (r .position) ⌝ }
     {
-        let at = self.position;
-        if at < out.len() {
-            out[at] = value;
-            return Encoder { position: at + 1 };
+        if self.position < out.len() {
+            return self.set_u8(out, value);
         }
         self.advanced(1)
     }
 
+    // One test of the whole width; near the output's end the bytes are made apart, and those that fit are put.
     pub fn put_u16_le(self, out: &mut [u8], value: u16) -> Encoder
         ensures { λ r. ⌜ Put (now (out .entry)) (self .position) (leBytes 2 value) (now (out .exit)) (r .position) ⌝ }
     {
-        let low = self.put_u8(out, (value % 256) as u8);
-        low.put_u8(out, (value / 256) as u8)
+        if remaining(out, self.position) < 2 {
+            let mut bytes = [0u8; 2];
+            Encoder::new().set_u16(&mut bytes, value);
+            return self.put_bytes(out, &bytes);
+        }
+        self.set_u16(out, value)
     }
 
     pub fn put_u32_le(self, out: &mut [u8], value: u32) -> Encoder
         ensures { λ r. ⌜ Put (now (out .entry)) (self .position) (leBytes 4 value) (now (out .exit)) (r .position) ⌝ }
     {
-        let low = self.put_u16_le(out, (value % 65_536) as u16);
-        low.put_u16_le(out, (value / 65_536) as u16)
+        if remaining(out, self.position) < 4 {
+            let mut bytes = [0u8; 4];
+            Encoder::new().set_u32(&mut bytes, value);
+            return self.put_bytes(out, &bytes);
+        }
+        self.set_u32(out, value)
     }
 
     pub fn put_u64_le(self, out: &mut [u8], value: u64) -> Encoder
         ensures { λ r. ⌜ Put (now (out .entry)) (self .position) (leBytes 8 value) (now (out .exit)) (r .position) ⌝ }
     {
-        let low = self.put_u32_le(out, (value % 4_294_967_296) as u32);
-        low.put_u32_le(out, (value / 4_294_967_296) as u32)
+        if remaining(out, self.position) < 8 {
+            let mut bytes = [0u8; 8];
+            Encoder::new().set_u64(&mut bytes, value);
+            return self.put_bytes(out, &bytes);
+        }
+        self.set_u64(out, value)
     }
 
     pub fn put_bytes(self, out: &mut [u8], value: &[u8]) -> Encoder
@@ -508,6 +582,18 @@ impl Encoder {
             i += 1;
         }
         self.advanced(value.len())
+    }
+
+    pub fn put_array24(self, out: &mut [u8], nonce: [u8; 24]) -> Encoder
+        ensures { λ r. ⌜ Put (now (out .entry)) (self .position) nonce (now (out .exit)) (r .position) ⌝ }
+    {
+        self.put_bytes(out, &nonce)
+    }
+
+    pub fn put_array32(self, out: &mut [u8], array: [u8; 32]) -> Encoder
+        ensures { λ r. ⌜ Put (now (out .entry)) (self .position) array (now (out .exit)) (r .position) ⌝ }
+    {
+        self.put_bytes(out, &array)
     }
 
     pub fn put_compact_size(self, out: &mut [u8], value: u64) -> Encoder

@@ -2,9 +2,8 @@
 use hns_encoding::Encoder;
 use hns_encoding::Refusal;
 ghost use mathlib.Core.Path.{_≡_};
-ghost use Prim.Native.Nat.{_+_, _≤_};
 ghost use lib.ListN.{length};
-ghost use Rattle.hns_encoding.specs.Bytes.{part, stop};
+ghost use Rattle.hns_encoding.specs.Bytes.{stop};
 ghost use Rattle.hns_encoding.specs.Format.{write, valueAt};
 ghost use Rattle.hns_encoding.specs.Put.{Put};
 ghost use Rattle.hns_header_consensus.specs.Layout.{header, decodeHeader, headerAt};
@@ -40,26 +39,6 @@ pub struct Decoded {
     pub header: Header,
 }
 
-fn array32(input: &[u8], at: usize) -> [u8; 32]
-    requires { ⌜ at + 32 ≤ length (now input) ⌝ }
-    ensures { λ r. ⌜ r ≡ part (now (input .entry)) at 32 ⌝ }
-{
-    let mut out = [0u8; 32];
-    let end = at + 32;
-    Encoder::new().put_bytes(&mut out, &input[at..end]);
-    out
-}
-
-fn array24(input: &[u8], at: usize) -> [u8; 24]
-    requires { ⌜ at + 24 ≤ length (now input) ⌝ }
-    ensures { λ r. ⌜ r ≡ part (now (input .entry)) at 24 ⌝ }
-{
-    let mut out = [0u8; 24];
-    let end = at + 24;
-    Encoder::new().put_bytes(&mut out, &input[at..end]);
-    out
-}
-
 // The header that 236 bytes are.
 fn header_of(block: &[u8]) -> Header
     requires { ⌜ length (now block) ≡ 236 ⌝ }
@@ -68,15 +47,15 @@ fn header_of(block: &[u8]) -> Header
     Header {
         nonce: hns_encoding::u32_at(block, 0),
         time: hns_encoding::u64_at(block, 4),
-        previous_block: array32(block, 12),
-        tree_root: array32(block, 44),
-        extra_nonce: array24(block, 76),
-        reserved_root: array32(block, 100),
-        witness_root: array32(block, 132),
-        merkle_root: array32(block, 164),
+        previous_block: hns_encoding::array32_at(block, 12),
+        tree_root: hns_encoding::array32_at(block, 44),
+        extra_nonce: hns_encoding::array24_at(block, 76),
+        reserved_root: hns_encoding::array32_at(block, 100),
+        witness_root: hns_encoding::array32_at(block, 132),
+        merkle_root: hns_encoding::array32_at(block, 164),
         version: hns_encoding::u32_at(block, 196),
         bits: hns_encoding::u32_at(block, 200),
-        mask: array32(block, 204),
+        mask: hns_encoding::array32_at(block, 204),
     }
 }
 
@@ -102,18 +81,6 @@ pub fn read_header(input: &[u8], position: usize) -> Decoded
         answer: Answer::Done(end),
         header: header_of(&input[position..end]),
     }
-}
-
-fn put32(encoder: Encoder, out: &mut [u8], value: [u8; 32]) -> Encoder
-    ensures { λ r. ⌜ Put (now (out .entry)) (encoder .position) value (now (out .exit)) (r .position) ⌝ }
-{
-    encoder.put_bytes(out, &value)
-}
-
-fn put24(encoder: Encoder, out: &mut [u8], value: [u8; 24]) -> Encoder
-    ensures { λ r. ⌜ Put (now (out .entry)) (encoder .position) value (now (out .exit)) (r .position) ⌝ }
-{
-    encoder.put_bytes(out, &value)
 }
 
 impl Header {
@@ -167,14 +134,14 @@ impl Header {
         let mask = self.mask;
         let e = encoder.put_u32_le(out, self.nonce);
         let e = e.put_u64_le(out, self.time);
-        let e = put32(e, out, previous_block);
-        let e = put32(e, out, tree_root);
-        let e = put24(e, out, extra_nonce);
-        let e = put32(e, out, reserved_root);
-        let e = put32(e, out, witness_root);
-        let e = put32(e, out, merkle_root);
+        let e = e.put_array32(out, previous_block);
+        let e = e.put_array32(out, tree_root);
+        let e = e.put_array24(out, extra_nonce);
+        let e = e.put_array32(out, reserved_root);
+        let e = e.put_array32(out, witness_root);
+        let e = e.put_array32(out, merkle_root);
         let e = e.put_u32_le(out, self.version);
         let e = e.put_u32_le(out, self.bits);
-        put32(e, out, mask)
+        e.put_array32(out, mask)
     }
 }

@@ -18,7 +18,7 @@ pub enum Step {
 const DIGITS: [u8; 16] = *b"0123456789abcdef";
 
 // Bytes as digits. The table is taken before the loop, which then keeps it at hand.
-fn put_hex(encoder: Encoder, out: &mut [u8], bytes: &[u8]) -> Encoder
+pub fn put_hex(encoder: Encoder, out: &mut [u8], bytes: &[u8]) -> Encoder
     ensures { λ r. ⌜ Put (now (out .entry)) (encoder .position) (hex (now (bytes .entry))) (now (out .exit)) (r .position) ⌝ }
 {
     let digits = DIGITS;

@@ -6,12 +6,6 @@ use lib.ListN.{length}
 use borrow.Author.Needs.{needs}
 use Rattle.survey_cases.proofs.export.Statement.{statement}
 use Rattle.survey_cases.proofs.export.Tie as tie
-use Rattle.survey_cases.proofs.export.Reads as reads
-use Rattle.survey_cases.proofs.export.Lts as lts
-use Rattle.survey_cases.proofs.chunk_end.Reads as chunk-end-reads
-use Rattle.survey_cases.proofs.next_chunk.Reads as next-chunk-reads
-use Rattle.survey_export.proofs.first.Reads as first-reads
-use Rattle.survey_export.proofs.put_held.Reads as put-held-reads
 
 abbrev Inv-loop : tie.InvT-loop
 Inv-loop log store₀ output₀ text₀ now₀ from₀ store output text now from =
@@ -20,75 +14,57 @@ Inv-loop log store₀ output₀ text₀ now₀ from₀ store output text now fro
 abbrev μ-loop : tie.MeasureT-loop
 μ-loop log store₀ output₀ text₀ now₀ from₀ store output text now from = length log - from
 
--- src/main.rt:59:5
 loop-holds : tie.Need-loop-holds Inv-loop μ-loop
 loop-holds c = (omega arith, (refl, (refl, refl)))
 
--- src/main.rt:60:20
 sub-rest : tie.Need-sub-rest Inv-loop μ-loop
 sub-rest c = search needs
 
--- src/main.rt:60:20
 part-rest-start : tie.Need-part-rest-start Inv-loop μ-loop
 part-rest-start c = search needs
 
--- src/main.rt:60:20
 part-rest-end : tie.Need-part-rest-end Inv-loop μ-loop
 part-rest-end c = search needs
 
--- src/main.rt:61:13
 first-requires : tie.Need-first-requires Inv-loop μ-loop
 first-requires c κs = search needs
 
--- src/main.rt:62:9
 next-chunk-requires : tie.Need-next-chunk-requires Inv-loop μ-loop
 next-chunk-requires c κs = search needs
 
--- src/main.rt:64:13
 same-length : tie.Need-same-length Inv-loop μ-loop
 same-length c = search needs
 
--- src/main.rt:64:13
 same-length-2 : tie.Need-same-length-2 Inv-loop μ-loop
 same-length-2 c = search needs
 
--- src/main.rt:64:13
 same-length-3 : tie.Need-same-length-3 Inv-loop μ-loop
 same-length-3 c = search needs
 
--- src/main.rt:64:13
 returns : tie.Need-returns Inv-loop μ-loop
 returns c = search needs
 
--- src/main.rt:66:9
 chunk-end-requires : tie.Need-chunk-end-requires Inv-loop μ-loop
 chunk-end-requires c κs = search needs
 
--- src/main.rt:59:5
 loop-less : tie.Need-loop-less Inv-loop μ-loop
 loop-less c = search needs
 
--- src/main.rt:59:5
 loop-again : tie.Need-loop-again Inv-loop μ-loop
 loop-again c = search needs
 
--- src/main.rt:68:9
 put-held-requires : tie.Need-put-held-requires Inv-loop μ-loop
 put-held-requires c κs = search needs
 
--- src/main.rt:52:1
 same-length-4 : tie.Need-same-length-4 Inv-loop μ-loop
 same-length-4 c = search needs
 
--- src/main.rt:52:1
 same-length-5 : tie.Need-same-length-5 Inv-loop μ-loop
 same-length-5 c = search needs
 
--- src/main.rt:52:1
 same-length-6 : tie.Need-same-length-6 Inv-loop μ-loop
 same-length-6 c = search needs
 
--- src/main.rt:52:1
 returns-2 : tie.Need-returns-2 Inv-loop μ-loop
 returns-2 c = search needs
 

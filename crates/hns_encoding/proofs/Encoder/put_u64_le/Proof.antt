@@ -1,34 +1,56 @@
+use Rattle.hns_encoding.proofs.Numbers.{length-leBytes}
+use Rattle.hns_encoding.proofs.Puts.{put-all}
 use borrow.Author.Needs.{needs}
-use Rattle.hns_encoding.proofs.Puts.{put-halves}
-use native.Mathlib.Omega.{arith}
 use Rattle.hns_encoding.proofs.Encoder.put_u64_le.Statement.{statement}
 use Rattle.hns_encoding.proofs.Encoder.put_u64_le.Tie as tie
 
-cast-put-u32-le : tie.Need-cast-put-u32-le
-cast-put-u32-le c = search needs
+remaining-requires : tie.Need-remaining-requires
+remaining-requires c κs = search needs
 
-put-u32-le-requires : tie.Need-put-u32-le-requires
-put-u32-le-requires c κs = search needs
+new-requires : tie.Need-new-requires
+new-requires c κs = search needs
 
-cast-put-u32-le-2 : tie.Need-cast-put-u32-le-2
-cast-put-u32-le-2 c = search needs
+slice-aggregate-set-u64 : tie.Need-slice-aggregate-set-u64
+slice-aggregate-set-u64 c = search needs
 
-put-u32-le-requires-2 : tie.Need-put-u32-le-requires-2
-put-u32-le-requires-2 c κs = search needs
+set-u64-requires : tie.Need-set-u64-requires
+set-u64-requires c κs = search needs
+
+slice-aggregate-put-bytes : tie.Need-slice-aggregate-put-bytes
+slice-aggregate-put-bytes c = search needs
+
+put-bytes-requires : tie.Need-put-bytes-requires
+put-bytes-requires c κs = search needs
 
 same-length : tie.Need-same-length
 same-length c = search needs
 
 returns : tie.Need-returns
-returns c = put-halves 4 (c .before .before .before .before .before .before .before .before .before .args .value) (omega arith) (c .before .before .before .before .before .before .put-u32-le .ensures) (c .before .before .put-u32-le2 .ensures)
+returns c =
+    let made = put-all (c .before .before .before .before .before .before .before .before .new .ensures) (length-leBytes 8 (c .before .before .before .before .before .before .before .before .before .before .before .before .before .args .value)) (c .before .before .before .before .before .before .set-u64 .ensures .0) in
+    rw made at (c .before .before .put-bytes .ensures)
+
+set-u64-requires-2 : tie.Need-set-u64-requires-2
+set-u64-requires-2 c κs = search needs
+
+same-length-2 : tie.Need-same-length-2
+same-length-2 c = search needs
+
+returns-2 : tie.Need-returns-2
+returns-2 c = search needs
 
 pub put-u64-le-spec : {M : Type 1} → statement M
 put-u64-le-spec =
     tie.close
     (tie.spec
-    cast-put-u32-le
-    put-u32-le-requires
-    cast-put-u32-le-2
-    put-u32-le-requires-2
+    remaining-requires
+    new-requires
+    slice-aggregate-set-u64
+    set-u64-requires
+    slice-aggregate-put-bytes
+    put-bytes-requires
     same-length
-    returns)
+    returns
+    set-u64-requires-2
+    same-length-2
+    returns-2)

@@ -10,23 +10,23 @@ put-u32-le-requires c κs = search needs
 put-u64-le-requires : tie.Need-put-u64-le-requires
 put-u64-le-requires c κs = search needs
 
-put32-requires : tie.Need-put32-requires
-put32-requires c κs = search needs
+put-array32-requires : tie.Need-put-array32-requires
+put-array32-requires c κs = search needs
 
-put32-requires-2 : tie.Need-put32-requires-2
-put32-requires-2 c κs = search needs
+put-array32-requires-2 : tie.Need-put-array32-requires-2
+put-array32-requires-2 c κs = search needs
 
-put24-requires : tie.Need-put24-requires
-put24-requires c κs = search needs
+put-array24-requires : tie.Need-put-array24-requires
+put-array24-requires c κs = search needs
 
-put32-requires-3 : tie.Need-put32-requires-3
-put32-requires-3 c κs = search needs
+put-array32-requires-3 : tie.Need-put-array32-requires-3
+put-array32-requires-3 c κs = search needs
 
-put32-requires-4 : tie.Need-put32-requires-4
-put32-requires-4 c κs = search needs
+put-array32-requires-4 : tie.Need-put-array32-requires-4
+put-array32-requires-4 c κs = search needs
 
-put32-requires-5 : tie.Need-put32-requires-5
-put32-requires-5 c κs = search needs
+put-array32-requires-5 : tie.Need-put-array32-requires-5
+put-array32-requires-5 c κs = search needs
 
 put-u32-le-requires-2 : tie.Need-put-u32-le-requires-2
 put-u32-le-requires-2 c κs = search needs
@@ -34,8 +34,8 @@ put-u32-le-requires-2 c κs = search needs
 put-u32-le-requires-3 : tie.Need-put-u32-le-requires-3
 put-u32-le-requires-3 c κs = search needs
 
-put32-requires-6 : tie.Need-put32-requires-6
-put32-requires-6 c κs = search needs
+put-array32-requires-6 : tie.Need-put-array32-requires-6
+put-array32-requires-6 c κs = search needs
 
 returns : tie.Need-returns
 unfolding write
@@ -54,15 +54,15 @@ returns c =
     let start = c1 .before .before .before .before .before .before .before .before .before .before in
     (c1 .put-u32-le .ensures
     ⨟ c2 .put-u64-le .ensures
-    ⨟ c3 .put32 .ensures
-    ⨟ c4 .put322 .ensures
-    ⨟ c5 .put24 .ensures
-    ⨟ c6 .put323 .ensures
-    ⨟ c7 .put324 .ensures
-    ⨟ c8 .put325 .ensures
+    ⨟ c3 .put-array32 .ensures
+    ⨟ c4 .put-array322 .ensures
+    ⨟ c5 .put-array24 .ensures
+    ⨟ c6 .put-array323 .ensures
+    ⨟ c7 .put-array324 .ensures
+    ⨟ c8 .put-array325 .ensures
     ⨟ c9 .put-u32-le2 .ensures
     ⨟ c10 .put-u32-le3 .ensures
-    ⨟ (λ h. c11 .put326 .ensures))
+    ⨟ (λ h. c11 .put-array326 .ensures))
     (start .good .1 .1 .0 .0)
 
 same-length : tie.Need-same-length
@@ -74,14 +74,14 @@ encode-to-spec =
     (tie.spec
     put-u32-le-requires
     put-u64-le-requires
-    put32-requires
-    put32-requires-2
-    put24-requires
-    put32-requires-3
-    put32-requires-4
-    put32-requires-5
+    put-array32-requires
+    put-array32-requires-2
+    put-array24-requires
+    put-array32-requires-3
+    put-array32-requires-4
+    put-array32-requires-5
     put-u32-le-requires-2
     put-u32-le-requires-3
-    put32-requires-6
+    put-array32-requires-6
     same-length
     returns)

@@ -1,0 +1,106 @@
+/* The proved Handshake codec for C: numbers and bytes in, rows of six numbers out.
+ *
+ * Link with libhns_ffi.a, which `rt staticlib hns_ffi` writes.
+ *
+ * A slice is a pointer that is not null and a count; lent slices of one call do not overlap. No
+ * call asks more of its caller. None keeps a pointer, allocates, or touches anything but what it
+ * is lent.
+ *
+ * A row is six numbers at the front of `answer`; what does not fit is dropped. Its first is 0,
+ * and what was answered follows, or it is the number of a refusal, and its values a, b, c follow.
+ * The rest is 0:
+ *
+ *   numbers          0, value, next place
+ *   bytes            0, first place, next place
+ *   finish           0
+ *   headers          0, next place, nonce, time, version, bits
+ *   frame prefix     0, 0 where there is no whole frame yet
+ *                    0, 1, type, payload length, bytes taken
+ *   exact frame      0, type, payload length
+ *   frame written    0, length of its encoding
+ *   push             0, frames, length of their encodings, held count
+ *                    refusal, a, b, c, held count
+ *
+ * Refusals: 1 bytes end in a field (a place, b missing); 2 compact size not shortest (a bits);
+ * 3 bytes left (a how many); 4 magic (a expected, b found); 5 payload too large (a, b limit);
+ * 6 held and input too large (a, b limit); 7 over a limit (a, b limit); 8 incomplete frame
+ * (a missing); 15 header length (a); 16 output too short (a needed); 17 store too short
+ * (a needed); 18 held count over the store (a held).
+ *
+ * Networks: 0 mainnet, 1 testnet, 2 regtest, simnet from 3 on.
+ */
+#ifndef HNS_FFI_H
+#define HNS_FFI_H
+
+#include <stddef.h>
+#include <stdint.h>
+
+#ifdef __cplusplus
+extern "C" {
+#endif
+
+/* Reads at a place. */
+void hns_read_u8(const uint8_t *input, size_t input_len, size_t position,
+                 uint64_t *answer, size_t answer_len);
+void hns_read_u16_le(const uint8_t *input, size_t input_len, size_t position,
+                     uint64_t *answer, size_t answer_len);
+void hns_read_u32_le(const uint8_t *input, size_t input_len, size_t position,
+                     uint64_t *answer, size_t answer_len);
+void hns_read_u64_le(const uint8_t *input, size_t input_len, size_t position,
+                     uint64_t *answer, size_t answer_len);
+void hns_read_compact_size(const uint8_t *input, size_t input_len, size_t position,
+                           uint64_t *answer, size_t answer_len);
+void hns_read_compact_usize(const uint8_t *input, size_t input_len, size_t position,
+                            size_t maximum, uint64_t *answer, size_t answer_len);
+void hns_read_slice(const uint8_t *input, size_t input_len, size_t position, size_t length,
+                    uint64_t *answer, size_t answer_len);
+void hns_read_bounded(const uint8_t *input, size_t input_len, size_t position, size_t length,
+                      size_t maximum, uint64_t *answer, size_t answer_len);
+void hns_read_varbytes(const uint8_t *input, size_t input_len, size_t position, size_t maximum,
+                       uint64_t *answer, size_t answer_len);
+void hns_finish(const uint8_t *input, size_t input_len, size_t position,
+                uint64_t *answer, size_t answer_len);
+
+/* Puts at a place, which answer the next place. What does not fit is counted and not stored. */
+size_t hns_put_u8(uint8_t value, uint8_t *out, size_t out_len, size_t position);
+size_t hns_put_u16_le(uint16_t value, uint8_t *out, size_t out_len, size_t position);
+size_t hns_put_u32_le(uint32_t value, uint8_t *out, size_t out_len, size_t position);
+size_t hns_put_u64_le(uint64_t value, uint8_t *out, size_t out_len, size_t position);
+size_t hns_put_compact_size(uint64_t value, uint8_t *out, size_t out_len, size_t position);
+size_t hns_put_bytes(const uint8_t *value, size_t value_len,
+                     uint8_t *out, size_t out_len, size_t position);
+size_t hns_put_varbytes(const uint8_t *value, size_t value_len,
+                        uint8_t *out, size_t out_len, size_t position);
+
+/* Headers. The hashes stand side by side, 216 bytes: previous block 32, tree root 32, extra
+ * nonce 24, reserved root 32, witness root 32, merkle root 32, mask 32. A refused read leaves
+ * them alone; a hash to put that is not all there is put as zeros. */
+void hns_decode_header(const uint8_t *input, size_t input_len,
+                       uint8_t *hashes, size_t hashes_len,
+                       uint64_t *answer, size_t answer_len);
+void hns_read_header(const uint8_t *input, size_t input_len, size_t position,
+                     uint8_t *hashes, size_t hashes_len,
+                     uint64_t *answer, size_t answer_len);
+size_t hns_put_header(uint32_t nonce, uint64_t time, const uint8_t *hashes, size_t hashes_len,
+                      uint32_t version, uint32_t bits,
+                      uint8_t *out, size_t out_len, size_t position);
+
+/* Frames. A payload stands in the input from its tenth byte on. */
+void hns_decode_frame_prefix(uint8_t network, const uint8_t *input, size_t input_len,
+                             uint64_t *answer, size_t answer_len);
+void hns_decode_exact(uint8_t network, const uint8_t *input, size_t input_len,
+                      uint64_t *answer, size_t answer_len);
+void hns_encode_frame(uint8_t network, uint8_t kind, const uint8_t *payload, size_t payload_len,
+                      uint8_t *out, size_t out_len, uint64_t *answer, size_t answer_len);
+
+/* A push into a stream whose held bytes are the first of `buffer`. Give each push the held count
+ * that the one before answered, 0 at first, and leave the held bytes alone in between. */
+void hns_push(uint8_t network, uint8_t *buffer, size_t buffer_len, size_t held,
+              const uint8_t *input, size_t input_len, uint8_t *output, size_t output_len,
+              uint64_t *answer, size_t answer_len);
+
+#ifdef __cplusplus
+}
+#endif
+
+#endif

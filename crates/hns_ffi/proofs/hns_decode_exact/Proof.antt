@@ -1,0 +1,32 @@
+use borrow.Author.Needs.{needs}
+use Rattle.hns_ffi.proofs.hns_decode_exact.Statement.{statement}
+use Rattle.hns_ffi.proofs.hns_decode_exact.Tie as tie
+
+network-of-requires : tie.Need-network-of-requires
+network-of-requires c κs = search needs
+
+decode-exact-requires : tie.Need-decode-exact-requires
+decode-exact-requires c κs = search needs
+
+of-exact-requires : tie.Need-of-exact-requires
+of-exact-requires c κs = search needs
+
+store-requires : tie.Need-store-requires
+store-requires c κs = search needs
+
+same-length : tie.Need-same-length
+same-length c = search needs
+
+returns : tie.Need-returns
+returns c = cc (c .before .before .store .ensures, c .before .before .before .of-exact .ensures, c .before .before .before .before .before .decode-exact .ensures, c .before .before .before .before .before .before .network-of .ensures)
+
+pub hns-decode-exact-spec : {M : Type 1} → statement M
+hns-decode-exact-spec =
+    tie.close
+    (tie.spec
+    network-of-requires
+    decode-exact-requires
+    of-exact-requires
+    store-requires
+    same-length
+    returns)

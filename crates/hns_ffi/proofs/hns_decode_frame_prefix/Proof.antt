@@ -1,0 +1,32 @@
+use borrow.Author.Needs.{needs}
+use Rattle.hns_ffi.proofs.hns_decode_frame_prefix.Statement.{statement}
+use Rattle.hns_ffi.proofs.hns_decode_frame_prefix.Tie as tie
+
+network-of-requires : tie.Need-network-of-requires
+network-of-requires c κs = search needs
+
+decode-frame-prefix-requires : tie.Need-decode-frame-prefix-requires
+decode-frame-prefix-requires c κs = search needs
+
+of-prefix-requires : tie.Need-of-prefix-requires
+of-prefix-requires c κs = search needs
+
+store-requires : tie.Need-store-requires
+store-requires c κs = search needs
+
+same-length : tie.Need-same-length
+same-length c = search needs
+
+returns : tie.Need-returns
+returns c = cc (c .before .before .store .ensures, c .before .before .before .of-prefix .ensures, c .before .before .before .before .before .decode-frame-prefix .ensures, c .before .before .before .before .before .before .network-of .ensures)
+
+pub hns-decode-frame-prefix-spec : {M : Type 1} → statement M
+hns-decode-frame-prefix-spec =
+    tie.close
+    (tie.spec
+    network-of-requires
+    decode-frame-prefix-requires
+    of-prefix-requires
+    store-requires
+    same-length
+    returns)

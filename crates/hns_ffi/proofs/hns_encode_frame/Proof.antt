@@ -1,0 +1,39 @@
+use borrow.Author.Needs.{needs}
+use Rattle.hns_ffi.proofs.hns_encode_frame.Statement.{statement}
+use Rattle.hns_ffi.proofs.hns_encode_frame.Tie as tie
+
+network-of-requires : tie.Need-network-of-requires
+network-of-requires c κs = search needs
+
+encode-requires : tie.Need-encode-requires
+encode-requires c κs = search needs
+
+of-encoded-requires : tie.Need-of-encoded-requires
+of-encoded-requires c κs = search needs
+
+store-requires : tie.Need-store-requires
+store-requires c κs = search needs
+
+same-length : tie.Need-same-length
+same-length c = search needs
+
+same-length-2 : tie.Need-same-length-2
+same-length-2 c = search needs
+
+returns : tie.Need-returns
+returns c =
+    let p = c .before .before .before .before .before .before .before in
+    let net = p .before .before .network-of .ensures in
+    (cc (c .before .before .store .ensures, c .before .before .before .of-encoded .ensures, p .encode .ensures .0, net), cc (p .encode .ensures .1, net))
+
+pub hns-encode-frame-spec : {M : Type 1} → statement M
+hns-encode-frame-spec =
+    tie.close
+    (tie.spec
+    network-of-requires
+    encode-requires
+    of-encoded-requires
+    store-requires
+    same-length
+    same-length-2
+    returns)

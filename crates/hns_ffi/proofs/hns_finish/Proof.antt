@@ -1,0 +1,22 @@
+use borrow.Author.Needs.{needs}
+use Rattle.hns_ffi.proofs.hns_finish.Statement.{statement}
+use Rattle.hns_ffi.proofs.hns_finish.Tie as tie
+
+finish-requires : tie.Need-finish-requires
+finish-requires c κs = search needs
+
+of-finished-requires : tie.Need-of-finished-requires
+of-finished-requires c κs = search needs
+
+store-requires : tie.Need-store-requires
+store-requires c κs = search needs
+
+same-length : tie.Need-same-length
+same-length c = search needs
+
+returns : tie.Need-returns
+returns c = cc (c .before .before .store .ensures, c .before .before .before .of-finished .ensures, c .before .before .before .before .finish .ensures)
+
+pub hns-finish-spec : {M : Type 1} → statement M
+hns-finish-spec =
+    tie.close (tie.spec finish-requires of-finished-requires store-requires same-length returns)

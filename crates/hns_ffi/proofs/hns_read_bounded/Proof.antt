@@ -1,0 +1,22 @@
+use borrow.Author.Needs.{needs}
+use Rattle.hns_ffi.proofs.hns_read_bounded.Statement.{statement}
+use Rattle.hns_ffi.proofs.hns_read_bounded.Tie as tie
+
+read-bounded-requires : tie.Need-read-bounded-requires
+read-bounded-requires c κs = search needs
+
+of-slice-requires : tie.Need-of-slice-requires
+of-slice-requires c κs = search needs
+
+store-requires : tie.Need-store-requires
+store-requires c κs = search needs
+
+same-length : tie.Need-same-length
+same-length c = search needs
+
+returns : tie.Need-returns
+returns c = cc (c .before .before .store .ensures, c .before .before .before .of-slice .ensures, c .before .before .before .before .read-bounded .ensures)
+
+pub hns-read-bounded-spec : {M : Type 1} → statement M
+hns-read-bounded-spec =
+    tie.close (tie.spec read-bounded-requires of-slice-requires store-requires same-length returns)

@@ -1,0 +1,23 @@
+use borrow.Author.Needs.{needs}
+use Rattle.hns_ffi.proofs.hns_read_compact_size.Statement.{statement}
+use Rattle.hns_ffi.proofs.hns_read_compact_size.Tie as tie
+
+read-compact-size-requires : tie.Need-read-compact-size-requires
+read-compact-size-requires c κs = search needs
+
+of-number-requires : tie.Need-of-number-requires
+of-number-requires c κs = search needs
+
+store-requires : tie.Need-store-requires
+store-requires c κs = search needs
+
+same-length : tie.Need-same-length
+same-length c = search needs
+
+returns : tie.Need-returns
+returns c = cc (c .before .before .store .ensures, c .before .before .before .of-number .ensures, c .before .before .before .before .read-compact-size .ensures)
+
+pub hns-read-compact-size-spec : {M : Type 1} → statement M
+hns-read-compact-size-spec =
+    tie.close
+    (tie.spec read-compact-size-requires of-number-requires store-requires same-length returns)

@@ -1,0 +1,22 @@
+use borrow.Author.Needs.{needs}
+use Rattle.hns_ffi.proofs.hns_read_u16_le.Statement.{statement}
+use Rattle.hns_ffi.proofs.hns_read_u16_le.Tie as tie
+
+read-u16-le-requires : tie.Need-read-u16-le-requires
+read-u16-le-requires c κs = search needs
+
+of-number-requires : tie.Need-of-number-requires
+of-number-requires c κs = search needs
+
+store-requires : tie.Need-store-requires
+store-requires c κs = search needs
+
+same-length : tie.Need-same-length
+same-length c = search needs
+
+returns : tie.Need-returns
+returns c = cc (c .before .before .store .ensures, c .before .before .before .of-number .ensures, c .before .before .before .before .read-u16-le .ensures)
+
+pub hns-read-u16-le-spec : {M : Type 1} → statement M
+hns-read-u16-le-spec =
+    tie.close (tie.spec read-u16-le-requires of-number-requires store-requires same-length returns)

@@ -1,0 +1,22 @@
+use borrow.Author.Needs.{needs}
+use Rattle.hns_ffi.proofs.hns_read_u64_le.Statement.{statement}
+use Rattle.hns_ffi.proofs.hns_read_u64_le.Tie as tie
+
+read-u64-le-requires : tie.Need-read-u64-le-requires
+read-u64-le-requires c κs = search needs
+
+of-number-requires : tie.Need-of-number-requires
+of-number-requires c κs = search needs
+
+store-requires : tie.Need-store-requires
+store-requires c κs = search needs
+
+same-length : tie.Need-same-length
+same-length c = search needs
+
+returns : tie.Need-returns
+returns c = cc (c .before .before .store .ensures, c .before .before .before .of-number .ensures, c .before .before .before .before .read-u64-le .ensures)
+
+pub hns-read-u64-le-spec : {M : Type 1} → statement M
+hns-read-u64-le-spec =
+    tie.close (tie.spec read-u64-le-requires of-number-requires store-requires same-length returns)

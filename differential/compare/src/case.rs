@@ -1,0 +1,173 @@
+//! An input for both sides.
+
+use std::fmt;
+
+use hns_port::NetworkMagic;
+
+#[derive(Clone, Copy, Debug, Eq, Ord, PartialEq, PartialOrd)]
+pub enum Kind {
+    ReadU8,
+    ReadU16,
+    ReadU32,
+    ReadU64,
+    CompactSize,
+    CompactUsize,
+    Slice,
+    Bounded,
+    Varbytes,
+    Finish,
+    Reads,
+    Puts,
+    HeaderDecode,
+    HeaderRead,
+    HeaderPut,
+    FramePrefix,
+    FrameExact,
+    FrameEncode,
+    Stream,
+    Row,
+}
+
+impl Kind {
+    pub const ALL: [Self; 20] = [
+        Self::ReadU8,
+        Self::ReadU16,
+        Self::ReadU32,
+        Self::ReadU64,
+        Self::CompactSize,
+        Self::CompactUsize,
+        Self::Slice,
+        Self::Bounded,
+        Self::Varbytes,
+        Self::Finish,
+        Self::Reads,
+        Self::Puts,
+        Self::HeaderDecode,
+        Self::HeaderRead,
+        Self::HeaderPut,
+        Self::FramePrefix,
+        Self::FrameExact,
+        Self::FrameEncode,
+        Self::Stream,
+        Self::Row,
+    ];
+
+    /// Its part of the random comparisons.
+    pub const fn share(self) -> u64 {
+        match self {
+            Self::Stream => 8,
+            Self::FramePrefix | Self::FrameExact | Self::Reads | Self::Puts => 2,
+            _ => 1,
+        }
+    }
+
+    /// What is compared, and what the numbers of a case are.
+    pub const fn what(self) -> &'static str {
+        match self {
+            Self::ReadU8 => "read_u8 (place)",
+            Self::ReadU16 => "read_u16_le (place)",
+            Self::ReadU32 => "read_u32_le (place)",
+            Self::ReadU64 => "read_u64_le (place)",
+            Self::CompactSize => "read_compact_size (place)",
+            Self::CompactUsize => "read_compact_usize (place, maximum)",
+            Self::Slice => "read_slice (place, length)",
+            Self::Bounded => "read_bounded_vec (place, length, maximum)",
+            Self::Varbytes => "read_varbytes (place, maximum)",
+            Self::Finish => "finish (place)",
+            Self::Reads => "reads one after another (kinds)",
+            Self::Puts => "puts (place, room, then put and value)",
+            Self::HeaderDecode => "Header::decode and encode",
+            Self::HeaderRead => "a header at a place (place)",
+            Self::HeaderPut => "Header::encode to a place (place, room)",
+            Self::FramePrefix => "decode_frame_prefix",
+            Self::FrameExact => "Frame::decode_exact",
+            Self::FrameEncode => "Frame::encode (type, room)",
+            Self::Stream => "FrameDecoder::push (chunks)",
+            Self::Row => "rows that do not fit (room)",
+        }
+    }
+}
+
+pub const NETWORKS: [NetworkMagic; 4] = [
+    NetworkMagic::Mainnet,
+    NetworkMagic::Testnet,
+    NetworkMagic::Regtest,
+    NetworkMagic::Simnet,
+];
+
+#[derive(Clone)]
+pub struct Case {
+    pub kind: Kind,
+    pub network: usize,
+    pub bytes: Vec<u8>,
+    pub numbers: Vec<u64>,
+}
+
+impl Case {
+    pub fn new(kind: Kind, bytes: Vec<u8>, numbers: &[u64]) -> Self {
+        let numbers = numbers.to_vec();
+        Self {
+            kind,
+            network: 0,
+            bytes,
+            numbers,
+        }
+    }
+
+    pub const fn on(mut self, network: usize) -> Self {
+        self.network = network;
+        self
+    }
+
+    /// A number of the case, 0 where it has none.
+    pub fn number(&self, i: usize) -> u64 {
+        self.numbers.get(i).copied().unwrap_or(0)
+    }
+
+    /// The place, which the Rust's decoder never moves past the end.
+    pub fn place(&self) -> usize {
+        self.bytes.len().min(self.number(0) as usize)
+    }
+}
+
+impl fmt::Display for Case {
+    fn fmt(&self, f: &mut fmt::Formatter<'_>) -> fmt::Result {
+        let network = NETWORKS[self.network];
+        writeln!(f, "  {}, {network:?}", self.kind.what())?;
+        writeln!(f, "  numbers {:?}", self.numbers)?;
+        write!(f, "  {} bytes ", self.bytes.len())?;
+        for byte in self.bytes.iter().take(200) {
+            write!(f, "{byte:02x}")?;
+        }
+        let more = if self.bytes.len() > 200 { " .." } else { "" };
+        writeln!(f, "{more}")
+    }
+}
+
+/// What became of a case.
+pub enum Verdict {
+    /// So many answers compared, and the same.
+    Same(u64),
+    /// One of the intended differences.
+    LeftOut,
+    Differs {
+        port: String,
+        rust: String,
+    },
+}
+
+impl Verdict {
+    pub fn of<T: fmt::Debug + PartialEq>(port: &T, rust: &T) -> Self {
+        if port == rust {
+            return Self::Same(1);
+        }
+        Self::Differs {
+            port: format!("{port:?}"),
+            rust: format!("{rust:?}"),
+        }
+    }
+
+    pub const fn differs(&self) -> bool {
+        matches!(self, Self::Differs { .. })
+    }
+}

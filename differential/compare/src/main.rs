@@ -1,0 +1,189 @@
+//! The port beside the published Rust: the same inputs, every answer compared.
+//!
+//! usage: compare [--short] [--count N] [--seed S]
+//!
+//! Random comparisons follow the exhaustive ones and the large limits: ten million, with `--short`
+//! a hundred thousand. A mismatch prints both answers and the smallest input found, and fails.
+
+mod buffer;
+mod case;
+mod exhaustive;
+mod frames;
+mod generate;
+mod headers;
+mod limits;
+mod puts;
+mod reads;
+mod rng;
+mod rust;
+mod shrink;
+mod stream;
+
+use std::collections::BTreeMap;
+use std::process::ExitCode;
+use std::sync::atomic::Ordering;
+use std::time::{Instant, SystemTime, UNIX_EPOCH};
+
+use case::{Case, Kind, Verdict};
+use rng::Rng;
+
+struct Options {
+    short: bool,
+    count: u64,
+    seed: u64,
+}
+
+fn main() -> ExitCode {
+    let Some(options) = options() else {
+        eprintln!("usage: compare [--short] [--count N] [--seed S]");
+        return ExitCode::from(2);
+    };
+    println!("{}", hns_port::LIBRARY);
+    println!("seed {}", options.seed);
+    let mut run = Run::default();
+    let begun = Instant::now();
+    compare(&options, &mut run);
+    run.summary();
+    println!("{:.1} s", begun.elapsed().as_secs_f64());
+    if run.mismatches.is_empty() {
+        return ExitCode::SUCCESS;
+    }
+    for (kind, case) in &run.mismatches {
+        report(*kind, case);
+    }
+    ExitCode::FAILURE
+}
+
+fn options() -> Option<Options> {
+    let mut words = std::env::args().skip(1);
+    let (mut short, mut count, mut seed) = (false, None, None);
+    while let Some(word) = words.next() {
+        match word.as_str() {
+            "--short" => short = true,
+            "--count" => count = Some(words.next()?.parse().ok()?),
+            "--seed" => seed = Some(words.next()?.parse().ok()?),
+            _ => return None,
+        }
+    }
+    let usual = if short { 100_000 } else { 10_000_000 };
+    let now = SystemTime::now().duration_since(UNIX_EPOCH);
+    Some(Options {
+        short,
+        count: count.unwrap_or(usual),
+        seed: seed.unwrap_or(now.map_or(0, |time| time.as_nanos() as u64)),
+    })
+}
+
+fn compare(options: &Options, run: &mut Run) {
+    let mut rng = Rng::new(options.seed);
+    run.part("exhaustive");
+    let first = if options.short { 0xfd } else { 0 };
+    exhaustive::compact_sizes(first, &mut |case| run.case(case));
+    exhaustive::frame_headers(&mut |case| run.case(case));
+    let longest = if options.short { 10 } else { 16 };
+    exhaustive::cuts(longest, &mut |case| run.case(case));
+    run.part("limits");
+    let networks = if options.short { 1 } else { 4 };
+    limits::all(&mut rng, networks, &mut |case| run.case(case));
+    run.part("random");
+    let shares: u64 = Kind::ALL.iter().map(|kind| kind.share()).sum();
+    for kind in Kind::ALL {
+        let wanted = (options.count * kind.share()).div_ceil(shares);
+        while run.compared(kind) < wanted && !run.mismatches.contains_key(&kind) {
+            run.case(&generate::case(&mut rng, kind));
+        }
+    }
+}
+
+fn check(case: &Case) -> Verdict {
+    match case.kind {
+        Kind::Reads => reads::check_sequence(case),
+        Kind::Puts => puts::check(case),
+        Kind::HeaderDecode => headers::decode(case),
+        Kind::HeaderRead => headers::read(case),
+        Kind::HeaderPut => headers::put(case),
+        Kind::FramePrefix => frames::prefix(case),
+        Kind::FrameExact => frames::exact(case),
+        Kind::FrameEncode => frames::encode(case),
+        Kind::Stream => stream::check(case),
+        Kind::Row => frames::row(case),
+        _ => reads::check(case),
+    }
+}
+
+#[derive(Default)]
+struct Run {
+    part: &'static str,
+    /// Comparisons by part and kind, and those left out.
+    same: BTreeMap<(&'static str, Kind), u64>,
+    left_out: BTreeMap<Kind, u64>,
+    mismatches: BTreeMap<Kind, Case>,
+}
+
+impl Run {
+    const fn part(&mut self, part: &'static str) {
+        self.part = part;
+    }
+
+    fn case(&mut self, case: &Case) {
+        if self.mismatches.contains_key(&case.kind) {
+            return;
+        }
+        match check(case) {
+            Verdict::Same(n) => *self.same.entry((self.part, case.kind)).or_default() += n,
+            Verdict::LeftOut => *self.left_out.entry(case.kind).or_default() += 1,
+            Verdict::Differs { .. } => drop(self.mismatches.insert(case.kind, case.clone())),
+        }
+    }
+
+    fn compared(&self, kind: Kind) -> u64 {
+        self.same.get(&(self.part, kind)).copied().unwrap_or(0)
+    }
+
+    fn summary(&self) {
+        let parts = ["exhaustive", "limits", "random"];
+        println!(
+            "{:<44}{:>12}{:>10}{:>12}{:>10}",
+            "comparisons", parts[0], parts[1], parts[2], "left out"
+        );
+        for kind in Kind::ALL {
+            let counts = parts.map(|part| self.same.get(&(part, kind)).copied().unwrap_or(0));
+            let left_out = self.left_out.get(&kind).copied().unwrap_or(0);
+            let verdict = if self.mismatches.contains_key(&kind) {
+                "  DIFFERS"
+            } else {
+                ""
+            };
+            let what = kind.what();
+            println!(
+                "{what:<44}{:>12}{:>10}{:>12}{left_out:>10}{verdict}",
+                counts[0], counts[1], counts[2]
+            );
+        }
+        self.totals();
+    }
+
+    fn totals(&self) {
+        let total: u64 = self.same.values().sum();
+        let kinds = self.mismatches.len();
+        println!("{total} comparisons, {kinds} kinds with a mismatch");
+        let refused = |number: usize| rust::REFUSED[number].load(Ordering::Relaxed);
+        let rows = self.same.get(&("random", Kind::Row)).unwrap_or(&0);
+        let alone = rows + (16..=18).map(refused).sum::<u64>();
+        println!("{alone} of them of the port alone: rows, and 16 to 18, which the Rust lacks");
+        print!("refusals by number:");
+        for number in (0..20).filter(|number| refused(*number) > 0) {
+            print!(" {number}: {}", refused(number));
+        }
+        println!();
+    }
+}
+
+fn report(kind: Kind, case: &Case) {
+    println!("\nMISMATCH: {}", kind.what());
+    let small = shrink::shrink(case.clone(), |case| check(case).differs());
+    print!("smallest input found:\n{small}");
+    if let Verdict::Differs { port, rust } = check(&small) {
+        println!("  port {port:.600}\n  rust {rust:.600}");
+    }
+}

@@ -1,0 +1,198 @@
+use crate::{Refusal, ffi, row};
+
+/// Reads from the front of a slice on. A refused read leaves the place where it was.
+#[derive(Clone, Copy, Debug)]
+pub struct Decoder<'input> {
+    input: &'input [u8],
+    position: usize,
+}
+
+type Read = unsafe extern "C" fn(*const u8, usize, usize, *mut u64, usize);
+
+impl<'input> Decoder<'input> {
+    #[inline]
+    pub const fn new(input: &'input [u8]) -> Self {
+        Self::at(input, 0)
+    }
+
+    /// Reads from a place on, which may be past the end.
+    #[inline]
+    pub const fn at(input: &'input [u8], position: usize) -> Self {
+        Self { input, position }
+    }
+
+    #[inline]
+    pub const fn position(&self) -> usize {
+        self.position
+    }
+
+    #[inline]
+    pub const fn remaining(&self) -> usize {
+        self.input.len().saturating_sub(self.position)
+    }
+
+    #[inline]
+    pub fn read_u8(&mut self) -> Result<u8, Refusal> {
+        Ok(self.number(ffi::hns_read_u8)? as u8)
+    }
+
+    #[inline]
+    pub fn read_u16_le(&mut self) -> Result<u16, Refusal> {
+        Ok(self.number(ffi::hns_read_u16_le)? as u16)
+    }
+
+    #[inline]
+    pub fn read_u32_le(&mut self) -> Result<u32, Refusal> {
+        Ok(self.number(ffi::hns_read_u32_le)? as u32)
+    }
+
+    #[inline]
+    pub fn read_u64_le(&mut self) -> Result<u64, Refusal> {
+        self.number(ffi::hns_read_u64_le)
+    }
+
+    #[inline]
+    pub fn read_compact_size(&mut self) -> Result<u64, Refusal> {
+        self.number(ffi::hns_read_compact_size)
+    }
+
+    #[inline]
+    pub fn read_compact_usize(&mut self, maximum: usize) -> Result<usize, Refusal> {
+        let (input, len, at) = self.parts();
+        // SAFETY: the pointers and counts are those of slices, and they do not overlap.
+        let call = |answer, n| unsafe {
+            ffi::hns_read_compact_usize(input, len, at, maximum, answer, n);
+        };
+        let [_, value, next, ..] = row(call)?;
+        self.position = next as usize;
+        Ok(value as usize)
+    }
+
+    #[inline]
+    pub fn read_slice(&mut self, length: usize) -> Result<&'input [u8], Refusal> {
+        let (input, len, at) = self.parts();
+        // SAFETY: as above.
+        self.slice(|answer, n| unsafe { ffi::hns_read_slice(input, len, at, length, answer, n) })
+    }
+
+    #[inline]
+    pub fn read_bounded(&mut self, length: usize, maximum: usize) -> Result<&'input [u8], Refusal> {
+        let (input, len, at) = self.parts();
+        // SAFETY: as above.
+        self.slice(|answer, n| unsafe {
+            ffi::hns_read_bounded(input, len, at, length, maximum, answer, n);
+        })
+    }
+
+    #[inline]
+    pub fn read_varbytes(&mut self, maximum: usize) -> Result<&'input [u8], Refusal> {
+        let (input, len, at) = self.parts();
+        // SAFETY: as above.
+        self.slice(|answer, n| unsafe {
+            ffi::hns_read_varbytes(input, len, at, maximum, answer, n);
+        })
+    }
+
+    #[inline]
+    pub fn finish(self) -> Result<(), Refusal> {
+        let (input, len, at) = self.parts();
+        // SAFETY: as above.
+        row(|answer, n| unsafe { ffi::hns_finish(input, len, at, answer, n) })?;
+        Ok(())
+    }
+
+    #[inline]
+    fn parts(&self) -> (*const u8, usize, usize) {
+        (self.input.as_ptr(), self.input.len(), self.position)
+    }
+
+    #[inline]
+    fn number(&mut self, read: Read) -> Result<u64, Refusal> {
+        let (input, len, at) = self.parts();
+        // SAFETY: as above.
+        let [_, value, next, ..] = row(|answer, n| unsafe { read(input, len, at, answer, n) })?;
+        self.position = next as usize;
+        Ok(value)
+    }
+
+    #[inline]
+    fn slice(&mut self, read: impl FnOnce(*mut u64, usize)) -> Result<&'input [u8], Refusal> {
+        let [_, start, next, ..] = row(read)?;
+        self.position = next as usize;
+        // No byte past the end is answered, but no bytes may be asked for past the end.
+        Ok(self.input.get(start as usize..next as usize).unwrap_or(&[]))
+    }
+}
+
+/// Puts into a lent output. What does not fit is counted and not stored, so the last position is
+/// the length that is needed.
+#[derive(Debug)]
+pub struct Encoder<'out> {
+    out: &'out mut [u8],
+    position: usize,
+}
+
+impl<'out> Encoder<'out> {
+    #[inline]
+    pub const fn new(out: &'out mut [u8]) -> Self {
+        Self::at(out, 0)
+    }
+
+    #[inline]
+    pub const fn at(out: &'out mut [u8], position: usize) -> Self {
+        Self { out, position }
+    }
+
+    #[inline]
+    pub const fn position(&self) -> usize {
+        self.position
+    }
+
+    #[inline]
+    pub fn put_u8(&mut self, value: u8) {
+        // SAFETY: the pointer and the count are those of the lent slice.
+        self.put(|out, len, at| unsafe { ffi::hns_put_u8(value, out, len, at) });
+    }
+
+    #[inline]
+    pub fn put_u16_le(&mut self, value: u16) {
+        // SAFETY: as above.
+        self.put(|out, len, at| unsafe { ffi::hns_put_u16_le(value, out, len, at) });
+    }
+
+    #[inline]
+    pub fn put_u32_le(&mut self, value: u32) {
+        // SAFETY: as above.
+        self.put(|out, len, at| unsafe { ffi::hns_put_u32_le(value, out, len, at) });
+    }
+
+    #[inline]
+    pub fn put_u64_le(&mut self, value: u64) {
+        // SAFETY: as above.
+        self.put(|out, len, at| unsafe { ffi::hns_put_u64_le(value, out, len, at) });
+    }
+
+    #[inline]
+    pub fn put_compact_size(&mut self, value: u64) {
+        // SAFETY: as above.
+        self.put(|out, len, at| unsafe { ffi::hns_put_compact_size(value, out, len, at) });
+    }
+
+    #[inline]
+    pub fn put_bytes(&mut self, value: &[u8]) {
+        let (bytes, count) = (value.as_ptr(), value.len());
+        // SAFETY: as above; a shared and a lent slice do not overlap.
+        self.put(|out, len, at| unsafe { ffi::hns_put_bytes(bytes, count, out, len, at) });
+    }
+
+    #[inline]
+    pub fn put_varbytes(&mut self, value: &[u8]) {
+        let (bytes, count) = (value.as_ptr(), value.len());
+        // SAFETY: as above.
+        self.put(|out, len, at| unsafe { ffi::hns_put_varbytes(bytes, count, out, len, at) });
+    }
+
+    pub(crate) fn put(&mut self, call: impl FnOnce(*mut u8, usize, usize) -> usize) {
+        self.position = call(self.out.as_mut_ptr(), self.out.len(), self.position);
+    }
+}

@@ -1,0 +1,166 @@
+//! The functions of libhns_ffi.a, as crates/hns_ffi/hns_ffi.h has them.
+
+unsafe extern "C" {
+    pub fn hns_read_u8(
+        input: *const u8,
+        input_len: usize,
+        position: usize,
+        answer: *mut u64,
+        answer_len: usize,
+    );
+    pub fn hns_read_u16_le(
+        input: *const u8,
+        input_len: usize,
+        position: usize,
+        answer: *mut u64,
+        answer_len: usize,
+    );
+    pub fn hns_read_u32_le(
+        input: *const u8,
+        input_len: usize,
+        position: usize,
+        answer: *mut u64,
+        answer_len: usize,
+    );
+    pub fn hns_read_u64_le(
+        input: *const u8,
+        input_len: usize,
+        position: usize,
+        answer: *mut u64,
+        answer_len: usize,
+    );
+    pub fn hns_read_compact_size(
+        input: *const u8,
+        input_len: usize,
+        position: usize,
+        answer: *mut u64,
+        answer_len: usize,
+    );
+    pub fn hns_read_compact_usize(
+        input: *const u8,
+        input_len: usize,
+        position: usize,
+        maximum: usize,
+        answer: *mut u64,
+        answer_len: usize,
+    );
+    pub fn hns_read_slice(
+        input: *const u8,
+        input_len: usize,
+        position: usize,
+        length: usize,
+        answer: *mut u64,
+        answer_len: usize,
+    );
+    pub fn hns_read_bounded(
+        input: *const u8,
+        input_len: usize,
+        position: usize,
+        length: usize,
+        maximum: usize,
+        answer: *mut u64,
+        answer_len: usize,
+    );
+    pub fn hns_read_varbytes(
+        input: *const u8,
+        input_len: usize,
+        position: usize,
+        maximum: usize,
+        answer: *mut u64,
+        answer_len: usize,
+    );
+    pub fn hns_finish(
+        input: *const u8,
+        input_len: usize,
+        position: usize,
+        answer: *mut u64,
+        answer_len: usize,
+    );
+
+    pub fn hns_put_u8(value: u8, out: *mut u8, out_len: usize, position: usize) -> usize;
+    pub fn hns_put_u16_le(value: u16, out: *mut u8, out_len: usize, position: usize) -> usize;
+    pub fn hns_put_u32_le(value: u32, out: *mut u8, out_len: usize, position: usize) -> usize;
+    pub fn hns_put_u64_le(value: u64, out: *mut u8, out_len: usize, position: usize) -> usize;
+    pub fn hns_put_compact_size(value: u64, out: *mut u8, out_len: usize, position: usize)
+    -> usize;
+    pub fn hns_put_bytes(
+        value: *const u8,
+        value_len: usize,
+        out: *mut u8,
+        out_len: usize,
+        position: usize,
+    ) -> usize;
+    pub fn hns_put_varbytes(
+        value: *const u8,
+        value_len: usize,
+        out: *mut u8,
+        out_len: usize,
+        position: usize,
+    ) -> usize;
+
+    pub fn hns_decode_header(
+        input: *const u8,
+        input_len: usize,
+        hashes: *mut u8,
+        hashes_len: usize,
+        answer: *mut u64,
+        answer_len: usize,
+    );
+    pub fn hns_read_header(
+        input: *const u8,
+        input_len: usize,
+        position: usize,
+        hashes: *mut u8,
+        hashes_len: usize,
+        answer: *mut u64,
+        answer_len: usize,
+    );
+    pub fn hns_put_header(
+        nonce: u32,
+        time: u64,
+        hashes: *const u8,
+        hashes_len: usize,
+        version: u32,
+        bits: u32,
+        out: *mut u8,
+        out_len: usize,
+        position: usize,
+    ) -> usize;
+
+    pub fn hns_decode_frame_prefix(
+        network: u8,
+        input: *const u8,
+        input_len: usize,
+        answer: *mut u64,
+        answer_len: usize,
+    );
+    pub fn hns_decode_exact(
+        network: u8,
+        input: *const u8,
+        input_len: usize,
+        answer: *mut u64,
+        answer_len: usize,
+    );
+    pub fn hns_encode_frame(
+        network: u8,
+        kind: u8,
+        payload: *const u8,
+        payload_len: usize,
+        out: *mut u8,
+        out_len: usize,
+        answer: *mut u64,
+        answer_len: usize,
+    );
+    pub fn hns_push(
+        network: u8,
+        buffer: *mut u8,
+        buffer_len: usize,
+        held: usize,
+        input: *const u8,
+        input_len: usize,
+        output: *mut u8,
+        output_len: usize,
+        answer: *mut u64,
+        answer_len: usize,
+    );
+}

@@ -1,0 +1,160 @@
+use crate::{Refusal, Row, ffi, row};
+
+pub const FRAME_HEADER_SIZE: usize = 9;
+
+#[derive(Clone, Copy, Debug, Eq, Hash, PartialEq)]
+#[repr(u8)]
+pub enum NetworkMagic {
+    Mainnet,
+    Testnet,
+    Regtest,
+    Simnet,
+}
+
+/// A frame: its payload is a part of the caller's slice.
+#[derive(Clone, Copy, Debug, Eq, PartialEq)]
+pub struct Frame<'input> {
+    pub packet_type: u8,
+    pub payload: &'input [u8],
+}
+
+/// The frame that a slice begins with and the bytes that it takes; none where it is not yet there.
+#[inline]
+pub fn decode_frame_prefix(
+    network: NetworkMagic,
+    input: &[u8],
+) -> Result<Option<(Frame<'_>, usize)>, Refusal> {
+    let (bytes, len) = (input.as_ptr(), input.len());
+    // SAFETY: the pointers and counts are those of slices, and they do not overlap.
+    let [_, whole, kind, length, taken, _] = row(|answer, n| unsafe {
+        ffi::hns_decode_frame_prefix(network as u8, bytes, len, answer, n);
+    })?;
+    if whole == 0 {
+        return Ok(None);
+    }
+    Ok(Some((frame(input, kind, length), taken as usize)))
+}
+
+/// A slice that is one frame.
+#[inline]
+pub fn decode_exact(network: NetworkMagic, input: &[u8]) -> Result<Frame<'_>, Refusal> {
+    let (bytes, len) = (input.as_ptr(), input.len());
+    // SAFETY: as above.
+    let [_, kind, length, ..] = row(|answer, n| unsafe {
+        ffi::hns_decode_exact(network as u8, bytes, len, answer, n);
+    })?;
+    Ok(frame(input, kind, length))
+}
+
+#[inline]
+fn frame(input: &[u8], kind: u64, length: u64) -> Frame<'_> {
+    Frame {
+        packet_type: kind as u8,
+        payload: &input[FRAME_HEADER_SIZE..][..length as usize],
+    }
+}
+
+/// Writes a frame to the output's front and answers the length of its encoding.
+#[inline]
+pub fn encode(
+    network: NetworkMagic,
+    packet_type: u8,
+    payload: &[u8],
+    out: &mut [u8],
+) -> Result<usize, Refusal> {
+    let (bytes, len) = (payload.as_ptr(), payload.len());
+    let (to, room) = (out.as_mut_ptr(), out.len());
+    // SAFETY: as above.
+    let [_, written, ..] = row(|answer, n| unsafe {
+        ffi::hns_encode_frame(network as u8, packet_type, bytes, len, to, room, answer, n);
+    })?;
+    Ok(written as usize)
+}
+
+/// What a push delivered: as many frames, their encodings this long at the output's front.
+#[derive(Clone, Copy, Debug, Default, Eq, PartialEq)]
+pub struct Delivered {
+    pub frames: usize,
+    pub bytes: usize,
+}
+
+/// A push's answer and the held count after it.
+#[derive(Clone, Copy, Debug, Eq, PartialEq)]
+pub struct Pushed {
+    pub answer: Result<Delivered, Refusal>,
+    pub held: usize,
+}
+
+/// Takes input into a stream whose held bytes are the store's first.
+#[inline]
+pub fn push(
+    network: NetworkMagic,
+    store: &mut [u8],
+    held: usize,
+    input: &[u8],
+    output: &mut [u8],
+) -> Pushed {
+    let mut row = Row::default();
+    // SAFETY: as above.
+    unsafe {
+        ffi::hns_push(
+            network as u8,
+            store.as_mut_ptr(),
+            store.len(),
+            held,
+            input.as_ptr(),
+            input.len(),
+            output.as_mut_ptr(),
+            output.len(),
+            row.as_mut_ptr(),
+            row.len(),
+        );
+    }
+    let [number, a, b, c, last, _] = row;
+    if number != 0 {
+        let answer = Err(Refusal { number, a, b, c });
+        let held = last as usize;
+        return Pushed { answer, held };
+    }
+    let (frames, bytes) = (a as usize, b as usize);
+    let answer = Ok(Delivered { frames, bytes });
+    let held = c as usize;
+    Pushed { answer, held }
+}
+
+/// A stream of frames over a lent store.
+#[derive(Debug)]
+pub struct FrameDecoder<'store> {
+    network: NetworkMagic,
+    store: &'store mut [u8],
+    held: usize,
+}
+
+impl<'store> FrameDecoder<'store> {
+    /// A store of 16,000,018 bytes serves every stream.
+    #[inline]
+    pub const fn new(network: NetworkMagic, store: &'store mut [u8]) -> Self {
+        Self {
+            network,
+            store,
+            held: 0,
+        }
+    }
+
+    #[inline]
+    pub const fn buffered_len(&self) -> usize {
+        self.held
+    }
+
+    #[inline]
+    pub const fn store(&self) -> &[u8] {
+        self.store
+    }
+
+    #[inline]
+    pub fn push(&mut self, input: &[u8], output: &mut [u8]) -> Result<Delivered, Refusal> {
+        let pushed = push(self.network, self.store, self.held, input, output);
+        self.held = pushed.held;
+        pushed.answer
+    }
+}
