@@ -11,6 +11,7 @@
  * The rest is 0:
  *
  *   numbers          0, value, next place
+ *   compact sizes    0, how many, next place
  *   bytes            0, first place, next place
  *   finish           0
  *   headers          0, next place, nonce, time, version, bits
@@ -52,6 +53,11 @@ void hns_read_compact_size(const uint8_t *input, size_t input_len, size_t positi
                            uint64_t *answer, size_t answer_len);
 void hns_read_compact_usize(const uint8_t *input, size_t input_len, size_t position,
                             size_t maximum, uint64_t *answer, size_t answer_len);
+/* Compact sizes one after another, as many as there is room for and up to the first that is refused:
+ * a read at the next place says why. A call costs more than a short read, so this is for lists. */
+void hns_read_compact_sizes(const uint8_t *input, size_t input_len, size_t position,
+                            uint64_t *values, size_t values_len,
+                            uint64_t *answer, size_t answer_len);
 void hns_read_slice(const uint8_t *input, size_t input_len, size_t position, size_t length,
                     uint64_t *answer, size_t answer_len);
 void hns_read_bounded(const uint8_t *input, size_t input_len, size_t position, size_t length,

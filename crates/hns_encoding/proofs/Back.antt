@@ -9,7 +9,7 @@ use lib.ListN.{length, replicate, length-append, length-replicate}
 use lib.Seq.{drop-append-seam, take-at}
 use lib.Dec.{leb, eqb}
 use borrow.Author.Tests.{le-leb, lt-ltb}
-use Rattle.hns_encoding.specs.Refusals.{indexOver, indexCountField, indexField}
+use Rattle.hns_refusals.specs.Refusals.{indexOver, indexCountField, indexField}
 use Rattle.hns_encoding.specs.Bytes.{leBytes, choose, Outcome, got, stop, after, bytesAt, leAt, toEnd}
 use Rattle.hns_encoding.specs.Compact.{wideAt, compactFrom, compactAt, compactBytes, countAt, boundedAt, varbytesAt, varbytes}
 use Rattle.hns_encoding.specs.Format.{Format, nothing, num, raw, reserved, host, flag, text, counted, indexes, whole, tagged, _▸_, read, write, writeAll, many, indexesFrom, differences, flagByte, low7, ipOf, All, Rising, Fit}

@@ -9,7 +9,7 @@ use lib.ListN.{length, take, drop, getD, replicate, length-append, length-replic
 use lib.Seq.{drop-cons, drop-drop, take-take}
 use lib.Dec.{leb, eqb, lit≤}
 use borrow.Author.Tests.{leb-true, lt-ltb}
-use Rattle.hns_encoding.specs.Refusals.{indexCountField, indexField}
+use Rattle.hns_refusals.specs.Refusals.{indexCountField, indexField}
 use Rattle.hns_encoding.specs.Bytes.{le, leBytes, Bytes, choose, Outcome, got, after, part, left, bytesAt, leAt, toEnd}
 use Rattle.hns_encoding.specs.Compact.{wideAt, compactFrom, compactAt, compactBytes, countAt, boundedAt, varbytesAt, varbytes}
 use Rattle.hns_encoding.specs.Format.{Format, nothing, num, raw, reserved, host, flag, text, counted, indexes, whole, tagged, _▸_, read, write, writeAll, many, indexesFrom, differences, flagByte, low7, ipOf, All, Rising, Fit}

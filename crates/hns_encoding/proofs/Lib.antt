@@ -6,4 +6,5 @@ pub mod Forward
 pub mod Rewritten
 pub mod Blocks
 pub mod Reading
+pub mod Runs
 pub mod Puts

@@ -8,8 +8,8 @@ use native.Mathlib.Omega.{arith}
 use lib.ListN.{length, getD}
 use lib.Dec.{leb, eqb}
 use borrow.Author.Tests.{le-leb, lt-leb, leb-true, eq-eqb, eqb-true}
-use Rattle.hns_encoding.specs.declared.Refusal.{Refusal}
-use Rattle.hns_encoding.specs.Refusals.{unexpectedEnd}
+use Rattle.hns_refusals.specs.declared.Refusal.{Refusal}
+use Rattle.hns_refusals.specs.Refusals.{unexpectedEnd}
 use Rattle.hns_encoding.specs.Bytes.{choose, Outcome, got, stop, after, part, left, bytesAt, leAt, endAt, toEnd}
 use Rattle.hns_encoding.specs.Compact.{compactAt, countAt}
 use Rattle.hns_encoding.proofs.Numbers.{le-one, byte-part}

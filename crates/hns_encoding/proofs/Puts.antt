@@ -82,6 +82,9 @@ splice-paste o p x = ⊎-elim long fits (lt-or-ge (length o - p) (length x))
         let none-left : drop (p + (length o - p)) o ≡ [] = drop-of-length-le o {i = p + (length o - p)} (omega arith) in
         rw (n, none-left, append-nil) (sym (splice-cut o p x k))
 
+pub pasted : (o : List ℕ) (p : ℕ) (x : List ℕ) (n : ℕ) {o′ : List ℕ} → n ≡ min (length x) (length o - p) → o′ ≡ paste o p x n → o′ ≡ splice o p x
+pasted o p x n e s = s ∙ rw e (splice-paste o p x)
+
 -- a cursor at 2^64 - 1 stores nothing, as one further on would not
 splice-cap : (o : List ℕ) (p n : ℕ) (y : List ℕ) → length o < 2 ^ 64 → splice o (advance p n) y ≡ splice o (p + n) y
 unfolding advance

@@ -6,18 +6,18 @@ use native.Mathlib.Omega.{arith}
 use lib.Pow.{pow-add}
 use mathlib.Core.Bool.{Bool, true, false}
 use lib.Arith.{digits-lt}
-use lib.Dec.{leb}
+use lib.Dec.{leb, eqb}
 use lib.ListN.{length, getD, replicate}
 use borrow.Author.Tests.{le-leb, lt-leb, lt-ltb, le-ltb, eq-eqb, ne-eqb}
-use Rattle.hns_encoding.specs.declared.Refusal.{Refusal}
+use Rattle.hns_refusals.specs.declared.Refusal.{Refusal}
 use Rattle.hns_encoding.specs.declared.Number.{Number}
 use Rattle.hns_encoding.specs.declared.Number.the-variants as N
 use Rattle.hns_encoding.specs.declared.Slice.the-variants as S
 use Rattle.hns_encoding.specs.declared.Finished.the-variants as F
-use Rattle.hns_encoding.specs.Refusals.{unexpectedEnd, notShortest, trailingBytes, overLimit}
+use Rattle.hns_refusals.specs.Refusals.{unexpectedEnd, notShortest, trailingBytes, overLimit}
 use Rattle.hns_encoding.specs.Bytes.{le, Outcome, got, stop, after, choose, part, bytesAt, leAt, numberAt, rawAt, endAt}
 use Rattle.hns_encoding.specs.Compact.{wideAt, compactFrom, compactAt, countAt, boundedAt, varbytesAt}
-use Rattle.hns_encoding.specs.Answers.{numberOf, sliceOf, finishedOf, shortestOf, Read}
+use Rattle.hns_encoding.specs.Answers.{numberOf, sliceOf, finishedOf, shortestOf, byForm, Read}
 use Rattle.hns_encoding.proofs.Numbers.{part-length, le-part-add, byte-part, le-one}
 use Rattle.hns_encoding.proofs.Outcomes.{after-got, choose-got, bytes-got}
 
@@ -81,15 +81,21 @@ unfolding finishedOf endAt
 finish-left s p h e = simp (ne-eqb _ _ h) (ap F.Refused e)
 
 -- a read that gave a value goes on with it, and a refused one ends there
-pub goes-on : {B : Type 0} (o : Outcome ℕ) (k : ℕ → ℕ → Outcome B) {read : Number} {v next : ℕ} → read ≡ numberOf o → read ≡ N.Value v next → after o k ≡ k v next
+pub value-read : (o : Outcome ℕ) {read : Number} {v next : ℕ} → read ≡ numberOf o → read ≡ N.Value v next → o ≡ got v next
 unfolding numberOf
-goes-on (got a m) k {v = v} {next = next} e g = let x : a ≡ v = cc in let y : m ≡ next = cc in rw (x, y)
-goes-on (stop r) k e g = let z : _≡_ {A = ℕ} 0 1 = cc in absurd (omega arith)
+value-read (got a m) {v = v} {next = next} e g = let x : a ≡ v = cc in let y : m ≡ next = cc in rw (x, y)
+value-read (stop r) e g = let z : _≡_ {A = ℕ} 0 1 = cc in absurd (omega arith)
+
+pub refusal-read : (o : Outcome ℕ) {read : Number} {r : Refusal} → read ≡ numberOf o → read ≡ N.Refused r → o ≡ stop r
+unfolding numberOf
+refusal-read (got a m) e g = let z : _≡_ {A = ℕ} 0 1 = cc in absurd (omega arith)
+refusal-read (stop q) {r = r} e g = let x : q ≡ r = cc in ap stop x
+
+pub goes-on : {B : Type 0} (o : Outcome ℕ) (k : ℕ → ℕ → Outcome B) {read : Number} {v next : ℕ} → read ≡ numberOf o → read ≡ N.Value v next → after o k ≡ k v next
+goes-on o k e g = rw (value-read o e g)
 
 ends : {B : Type 0} (o : Outcome ℕ) (k : ℕ → ℕ → Outcome B) {read : Number} {r : Refusal} → read ≡ numberOf o → read ≡ N.Refused r → after o k ≡ stop r
-unfolding numberOf
-ends (got a m) k e g = let z : _≡_ {A = ℕ} 0 1 = cc in absurd (omega arith)
-ends (stop q) k {r = r} e g = let x : q ≡ r = cc in ap stop x
+ends o k e g = rw (refusal-read o e g)
 
 pub ends-number : (o : Outcome ℕ) (k : ℕ → ℕ → Outcome ℕ) {read : Number} {r : Refusal} → read ≡ numberOf o → read ≡ N.Refused r → N.Refused r ≡ numberOf (after o k)
 unfolding numberOf
@@ -110,28 +116,46 @@ unfolding numberOf shortestOf
 shortest-answer least bits (got v next) = sym (choose-answer (leb least v) v next (notShortest bits))
 shortest-answer least bits (stop r) = refl
 
+-- the wide form of n bytes is a number of n bytes that has no shorter form
+wide : (n least : ℕ) (s : List ℕ) (p : ℕ) {read r : Number} → read ≡ numberOf (leAt n s p) → r ≡ shortestOf least (8 * n) read → r ≡ numberOf (wideAt n least s p)
+unfolding wideAt
+wide n least s p e g = g ∙ ap (shortestOf least (8 * n)) e ∙ shortest-answer least (8 * n) (leAt n s p)
+
+-- no form is wider than eight bytes
+pub width-most : (first : ℕ) → byForm first 2 4 8 ≤ 8
+unfolding byForm
+width-most first = most (eqb first 253) (eqb first 254)
+  where
+    most : (a b : Bool) → choose a 2 (choose b 4 8) ≤ 8
+    most true b = omega arith
+    most false true = omega arith
+    most false false = omega arith
+
 -- a compact size by its first byte
 module _ (first : ℕ) (s : List ℕ) (p : ℕ) where
   pub first-is-all : first < 253 → N.Value first p ≡ numberOf (compactFrom first s p)
   unfolding compactFrom numberOf
   first-is-all h = simp (lt-ltb _ _ h)
 
-  -- the wide form of n bytes is a number of n bytes that has no shorter form
-  wide : (n least : ℕ) {read r : Number} → read ≡ numberOf (leAt n s p) → r ≡ shortestOf least (8 * n) read → r ≡ numberOf (wideAt n least s p)
-  unfolding wideAt
-  wide n least e g = g ∙ ap (shortestOf least (8 * n)) e ∙ shortest-answer least (8 * n) (leAt n s p)
+  -- the number that is picked is the one of the width that is picked
+  pub number-picked : {two four eight v w : ℕ} → two ≡ numberAt 2 s p → four ≡ numberAt 4 s p → eight ≡ numberAt 8 s p → v ≡ byForm first two four eight → w ≡ byForm first 2 4 8 → v ≡ numberAt w s p
+  unfolding byForm
+  number-picked a b c ev ew = rw (ev, a, b, c, ew) (picked (eqb first 253) (eqb first 254))
+    where
+      picked : (a b : Bool) → choose a (numberAt 2 s p) (choose b (numberAt 4 s p) (numberAt 8 s p)) ≡ numberAt (choose a 2 (choose b 4 8)) s p
+      picked true b = refl
+      picked false true = refl
+      picked false false = refl
 
-  pub first-253 : first ≡ 253 → {read r : Number} → read ≡ numberOf (leAt 2 s p) → r ≡ shortestOf 253 16 read → r ≡ numberOf (compactFrom first s p)
-  unfolding compactFrom
-  first-253 h e g = rw h (wide 2 253 e g)
-
-  pub first-254 : first ≡ 254 → {read r : Number} → read ≡ numberOf (leAt 4 s p) → r ≡ shortestOf 65536 32 read → r ≡ numberOf (compactFrom first s p)
-  unfolding compactFrom
-  first-254 h e g = rw h (wide 4 65536 e g)
-
-  pub first-255 : 253 ≤ first → (first ≡ 253 → ⊥) → (first ≡ 254 → ⊥) → {read r : Number} → read ≡ numberOf (leAt 8 s p) → r ≡ shortestOf 4294967296 64 read → r ≡ numberOf (compactFrom first s p)
-  unfolding compactFrom
-  first-255 h k l e g = simp (le-ltb _ _ h, ne-eqb _ _ k, ne-eqb _ _ l) (wide 8 4294967296 e g)
+  -- and so is the form
+  pub form-picked : 253 ≤ first → {w least : ℕ} {read r : Number} → w ≡ byForm first 2 4 8 → least ≡ byForm first 253 65536 4294967296 → read ≡ numberOf (leAt w s p) → r ≡ shortestOf least (8 * w) read → r ≡ numberOf (compactFrom first s p)
+  unfolding byForm compactFrom
+  form-picked h {w} {least} ew el e g = simp (le-ltb _ _ h) (wide w least s p e g ∙ ap numberOf (rw (ew, el) (picked (eqb first 253) (eqb first 254))))
+    where
+      picked : (a b : Bool) → wideAt (choose a 2 (choose b 4 8)) (choose a 253 (choose b 65536 4294967296)) s p ≡ choose a (wideAt 2 253 s p) (choose b (wideAt 4 65536 s p) (wideAt 8 4294967296 s p))
+      picked true b = refl
+      picked false true = refl
+      picked false false = refl
 
 -- a compact size that its limit allows, and one that it does not
 module _ (limit field : ℕ) (s : List ℕ) (p : ℕ) {read : Number} {v next : ℕ} (e : read ≡ numberOf (compactAt s p)) (g : read ≡ N.Value v next) where

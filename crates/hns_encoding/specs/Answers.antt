@@ -1,11 +1,13 @@
 -- The code's answers, of what the definitions give.
 use Prim.Native.Nat.{ℕ, _-_, _<_, _^_}
 use mathlib.Core.Path.{_≡_}
-use lib.Dec.{leb}
+use lib.Dec.{leb, eqb}
 use mathlib.Core.List.{List}
 use lib.ListN.{length}
 use Rattle.hns_encoding.specs.Bytes.{Outcome, got, stop, le, part, choose}
-use Rattle.hns_encoding.specs.Refusals.{notShortest}
+use Rattle.hns_refusals.specs.Refusals.{notShortest}
+use Rattle.hns_encoding.specs.Compact.{Run}
+use Rattle.hns_encoding.specs.declared.Sizes.{Sizes}
 use Rattle.hns_encoding.specs.declared.Number.{Number}
 use Rattle.hns_encoding.specs.declared.Number.the-variants as N
 use Rattle.hns_encoding.specs.declared.Slice.{Slice}
@@ -35,3 +37,11 @@ shortestOf least bits (N.Refused r) = N.Refused r
 pub record Read (n : ℕ) (s : List ℕ) (at r : ℕ) : Type 0 where
   pub value : r ≡ le (part s at n)
   pub below : r < 256 ^ n
+
+-- by the form that a first byte of 253 or more begins, of two, four or eight bytes
+unfoldable pub byForm : ℕ → ℕ → ℕ → ℕ → ℕ
+byForm first two four eight = choose (eqb first 253) two (choose (eqb first 254) four eight)
+
+-- how many were read and the place after them; the values are stored
+unfoldable pub sizesOf : Run → Sizes
+sizesOf run = record { count = length (run .values); next = run .next }

@@ -4,8 +4,8 @@ use mathlib.Core.List.{List, [], _∷_}
 use mathlib.Core.Bool.{Bool, true, false}
 use lib.ListN.{length, take, drop, replicate}
 use lib.Dec.{leb, eqb}
-use Rattle.hns_encoding.specs.declared.Refusal.{Refusal}
-use Rattle.hns_encoding.specs.Refusals.{unexpectedEnd, trailingBytes}
+use Rattle.hns_refusals.specs.declared.Refusal.{Refusal}
+use Rattle.hns_refusals.specs.Refusals.{unexpectedEnd, trailingBytes}
 
 -- the number that a list of bytes writes, lowest byte first
 unfoldable pub le : List ℕ → ℕ

@@ -1,9 +1,9 @@
 -- Document 01, 'A compact size is 1 byte below 253, else fd and 2, fe and 4, ff and 8, always the shortest', and the reads that a compact size bounds.
-use Prim.Native.Nat.{ℕ, _*_}
+use Prim.Native.Nat.{ℕ, zero, suc, _*_}
 use mathlib.Core.List.{List, [], _∷_, _++_}
 use lib.ListN.{length}
 use lib.Dec.{leb, ltb, eqb}
-use Rattle.hns_encoding.specs.Refusals.{notShortest, overLimit}
+use Rattle.hns_refusals.specs.Refusals.{notShortest, overLimit}
 use Rattle.hns_encoding.specs.Bytes.{leBytes, choose, Outcome, got, stop, after, leAt, bytesAt}
 
 -- the bytes after the first of a wide form: n of them, of a number that no shorter form holds
@@ -46,3 +46,18 @@ varbytesAt limit s at = after (countAt limit 0 s at) (λ n next. boundedAt n lim
 
 unfoldable pub varbytes : List ℕ → List ℕ
 varbytes x = compactBytes (length x) ++ x
+
+-- compact sizes one after another and the place after them
+pub record Run : Type 0 where
+  pub values : List ℕ
+  pub next : ℕ
+
+-- a value and what follows it, or nothing more
+abbrev pub further : Outcome ℕ → ℕ → (ℕ → Run) → Run
+further (got v next) at rest = record { values = v ∷ rest next .values; next = rest next .next }
+further (stop r) at rest = record { values = []; next = at }
+
+-- at most n of them, up to the first that is refused
+unfoldable pub sizesAt : ℕ → List ℕ → ℕ → Run
+sizesAt zero s at = record { values = []; next = at }
+sizesAt (suc n) s at = further (compactAt s at) at (λ next. sizesAt n s next)

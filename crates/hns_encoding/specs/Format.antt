@@ -5,8 +5,8 @@ use mathlib.Core.Bool.{Bool, true, false}
 use mathlib.Core.Path.{_≡_}
 use lib.ListN.{length, take, replicate}
 use lib.Dec.{leb, eqb}
-use Rattle.hns_encoding.specs.declared.Refusal.{Refusal}
-use Rattle.hns_encoding.specs.Refusals.{unexpectedEnd, indexOver, indexCountField, indexField}
+use Rattle.hns_refusals.specs.declared.Refusal.{Refusal}
+use Rattle.hns_refusals.specs.Refusals.{unexpectedEnd, indexOver, indexCountField, indexField}
 use Rattle.hns_encoding.specs.Bytes.{le, leBytes, choose, Outcome, got, stop, after, part, bytesAt, leAt, toEnd}
 use Rattle.hns_encoding.specs.Compact.{compactBytes, countAt}
 

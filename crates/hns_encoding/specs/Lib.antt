@@ -1,4 +1,3 @@
-pub mod Refusals
 pub mod Bytes
 pub mod Compact
 pub mod Format

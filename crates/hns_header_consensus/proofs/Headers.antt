@@ -7,7 +7,7 @@ use lib.ListN.{length}
 use borrow.Author.Tests.{eq-eqb, ne-eqb, lt-leb}
 use Rattle.hns_encoding.specs.Bytes.{stop, part}
 use Rattle.hns_encoding.specs.Format.{whole, valueAt}
-use Rattle.hns_encoding.specs.Refusals.{headerLength, unexpectedEnd}
+use Rattle.hns_refusals.specs.Refusals.{headerLength, unexpectedEnd}
 use Rattle.hns_encoding.proofs.Blocks.{block-fits, block-short}
 use Rattle.hns_header_consensus.specs.declared.Header.{Header}
 use Rattle.hns_header_consensus.specs.Layout.{header, decodeHeader, headerAt}

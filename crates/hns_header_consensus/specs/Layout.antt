@@ -3,7 +3,7 @@ use mathlib.Core.List.{List}
 use Prim.Native.Nat.{ℕ}
 use lib.ListN.{length}
 use lib.Dec.{eqb}
-use Rattle.hns_encoding.specs.Refusals.{headerLength}
+use Rattle.hns_refusals.specs.Refusals.{headerLength}
 use Rattle.hns_encoding.specs.Bytes.{choose, Outcome, stop}
 use Rattle.hns_encoding.specs.Format.{Format, num, raw, whole, _▸_, Value, read}
 

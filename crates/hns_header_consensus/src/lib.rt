@@ -1,6 +1,6 @@
 // The 236 bytes of a Handshake header: decode, encode, and a header at a place of a longer slice.
-use hns_encoding::Encoder;
-use hns_encoding::Refusal;
+use hns_encoder::Encoder;
+use hns_refusals::Refusal;
 ghost use mathlib.Core.Path.{_≡_};
 ghost use lib.ListN.{length};
 ghost use Rattle.hns_encoding.specs.Bytes.{stop};
@@ -47,15 +47,15 @@ fn header_of(block: &[u8]) -> Header
     Header {
         nonce: hns_encoding::u32_at(block, 0),
         time: hns_encoding::u64_at(block, 4),
-        previous_block: hns_encoding::array32_at(block, 12),
-        tree_root: hns_encoding::array32_at(block, 44),
-        extra_nonce: hns_encoding::array24_at(block, 76),
-        reserved_root: hns_encoding::array32_at(block, 100),
-        witness_root: hns_encoding::array32_at(block, 132),
-        merkle_root: hns_encoding::array32_at(block, 164),
+        previous_block: hns_encoder::array32_at(block, 12),
+        tree_root: hns_encoder::array32_at(block, 44),
+        extra_nonce: hns_encoder::array24_at(block, 76),
+        reserved_root: hns_encoder::array32_at(block, 100),
+        witness_root: hns_encoder::array32_at(block, 132),
+        merkle_root: hns_encoder::array32_at(block, 164),
         version: hns_encoding::u32_at(block, 196),
         bits: hns_encoding::u32_at(block, 200),
-        mask: hns_encoding::array32_at(block, 204),
+        mask: hns_encoder::array32_at(block, 204),
     }
 }
 

@@ -6,8 +6,8 @@ use mathlib.Core.Bool.{Bool, true, false, not}
 use native.Mathlib.Omega.{arith}
 use lib.ListN.{length, getD, take}
 use borrow.Author.Tests.{not-true, not-false}
-use Rattle.hns_encoding.specs.declared.Refusal.{Refusal}
-use Rattle.hns_encoding.specs.Refusals.{refusal}
+use Rattle.hns_refusals.specs.declared.Refusal.{Refusal}
+use Rattle.hns_refusals.specs.Refusals.{refusal}
 use Rattle.hns_encoding.specs.Bytes.{le, numberAt}
 use Rattle.hns_encoding.proofs.Numbers.{part-length}
 use Rattle.hns_encoding.proofs.Reading.{number-there}

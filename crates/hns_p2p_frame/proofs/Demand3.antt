@@ -8,7 +8,7 @@ use lib.ListN.{length, take}
 use lib.Seq.{length-take-le}
 use lib.Dec.{T}
 use borrow.Author.Tests.{le-leb}
-use Rattle.hns_encoding.specs.declared.Refusal.{Refusal}
+use Rattle.hns_refusals.specs.declared.Refusal.{Refusal}
 use Rattle.hns_encoding.specs.Bytes.{Bytes, none}
 use Rattle.hns_encoding.specs.Format.{All}
 use Rattle.hns_encoding.specs.Put.{splice}

@@ -8,8 +8,8 @@ use lib.ListN.{length, getD, take, drop, length-append, length-drop, take-append
 use lib.Seq.{take-append-seam, drop-append-seam, take-append-le, drop-append-le, drop-drop, drop-cons}
 use lib.Dec.{leb, eqb, T}
 use borrow.Author.Tests.{leb-true, leb-false, le-leb, lt-leb, eqb-true, eq-eqb}
-use Rattle.hns_encoding.specs.declared.Refusal.{Refusal}
-use Rattle.hns_encoding.specs.Refusals.{magicMismatch, payloadTooLarge}
+use Rattle.hns_refusals.specs.declared.Refusal.{Refusal}
+use Rattle.hns_refusals.specs.Refusals.{magicMismatch, payloadTooLarge}
 use Rattle.hns_encoding.specs.Bytes.{le, leBytes, Bytes, none, byte, choose, part}
 use Rattle.hns_encoding.proofs.Numbers.{bytes-drop, bytes-take, byte-below, part-bytes, part-length, le-leBytes}
 use Rattle.hns_p2p_frame.specs.declared.NetworkMagic.{NetworkMagic}

@@ -8,8 +8,8 @@ use lib.ListN.{length, take, length-append}
 use lib.Seq.{drop-append-seam}
 use lib.Dec.{leb, T}
 use borrow.Author.Tests.{leb-true}
-use Rattle.hns_encoding.specs.declared.Refusal.{Refusal}
-use Rattle.hns_encoding.specs.Refusals.{streamTooLarge, outputShort, storeShort, heldOver}
+use Rattle.hns_refusals.specs.declared.Refusal.{Refusal}
+use Rattle.hns_refusals.specs.Refusals.{streamTooLarge, outputShort, storeShort, heldOver}
 use Rattle.hns_encoding.specs.Bytes.{Bytes}
 use Rattle.hns_encoding.specs.Format.{All}
 use Rattle.hns_encoding.specs.Put.{splice}

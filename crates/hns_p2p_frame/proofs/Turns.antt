@@ -6,7 +6,7 @@ use mathlib.Core.Path.{_≡_, refl, sym, ap, ap₂, _∙_}
 use mathlib.Core.List.{List}
 use lib.ListN.{length, take, drop, length-append, length-drop}
 use lib.Seq.{drop-drop, take-all}
-use Rattle.hns_encoding.specs.declared.Refusal.{Refusal}
+use Rattle.hns_refusals.specs.declared.Refusal.{Refusal}
 use Rattle.hns_p2p_frame.specs.declared.NetworkMagic.{NetworkMagic}
 use Rattle.hns_p2p_frame.specs.declared.Prefix.{Prefix}
 use Rattle.hns_p2p_frame.specs.declared.Prefix.the-variants as P

@@ -6,7 +6,7 @@ use native.Mathlib.Omega.{arith}
 use native.Mathlib.Nat.{le-refl}
 use lib.ListN.{length, length-append}
 use lib.Dec.{T}
-use Rattle.hns_encoding.specs.declared.Refusal.{Refusal}
+use Rattle.hns_refusals.specs.declared.Refusal.{Refusal}
 use Rattle.hns_encoding.specs.Bytes.{Bytes, leBytes}
 use Rattle.hns_encoding.specs.Format.{All}
 use Rattle.hns_p2p_frame.specs.declared.NetworkMagic.{NetworkMagic}

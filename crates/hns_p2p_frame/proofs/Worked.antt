@@ -3,7 +3,7 @@ use Prim.Native.Nat.{ℕ}
 use mathlib.Core.Path.{_≡_, refl}
 use mathlib.Core.List.{List, [], _∷_, _++_}
 use lib.ListN.{take, replicate}
-use Rattle.hns_encoding.specs.Refusals.{magicMismatch, payloadTooLarge, incompleteFrame, storeShort, heldOver}
+use Rattle.hns_refusals.specs.Refusals.{magicMismatch, payloadTooLarge, incompleteFrame, storeShort, heldOver}
 use Rattle.hns_encoding.specs.Bytes.{le, leBytes, stop}
 use Rattle.hns_encoding.specs.Put.{splice}
 use Rattle.hns_p2p_frame.specs.declared.NetworkMagic.the-variants.{Mainnet, Regtest}

@@ -3,8 +3,8 @@ use Prim.Native.Nat.{ℕ, _+_, _-_, _^_, min}
 use mathlib.Core.List.{List, _++_}
 use lib.ListN.{length, take}
 use lib.Dec.{leb}
-use Rattle.hns_encoding.specs.declared.Refusal.{Refusal}
-use Rattle.hns_encoding.specs.Refusals.{streamTooLarge, outputShort, storeShort, heldOver}
+use Rattle.hns_refusals.specs.declared.Refusal.{Refusal}
+use Rattle.hns_refusals.specs.Refusals.{streamTooLarge, outputShort, storeShort, heldOver}
 use Rattle.hns_encoding.specs.Bytes.{choose}
 use Rattle.hns_encoding.specs.Put.{splice}
 use Rattle.hns_p2p_frame.specs.declared.NetworkMagic.{NetworkMagic}

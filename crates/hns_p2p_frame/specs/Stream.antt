@@ -11,7 +11,7 @@ use mathlib.Core.Bool.{Bool, true}
 use mathlib.Core.Logic.{_⊎_}
 use lib.ListN.{length, take}
 use lib.Dec.{eqb, T}
-use Rattle.hns_encoding.specs.declared.Refusal.{Refusal}
+use Rattle.hns_refusals.specs.declared.Refusal.{Refusal}
 use Rattle.hns_encoding.specs.Bytes.{Bytes, choose}
 use Rattle.hns_encoding.specs.Format.{All}
 use Rattle.hns_p2p_frame.specs.declared.NetworkMagic.{NetworkMagic}

@@ -2,7 +2,7 @@
 use Prim.Native.Nat.{ℕ, zero, suc}
 use mathlib.Core.List.{List, [], _∷_}
 use lib.ListN.{length}
-use Rattle.hns_encoding.specs.declared.Refusal.{Refusal}
+use Rattle.hns_refusals.specs.declared.Refusal.{Refusal}
 use Rattle.hns_p2p_frame.specs.declared.NetworkMagic.{NetworkMagic}
 use Rattle.hns_p2p_frame.specs.Frame.{Frame, Front, notYet, whole, bad, front}
 

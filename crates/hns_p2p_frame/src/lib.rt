@@ -1,6 +1,6 @@
 // Frames of a peer stream: reading one at the front of a slice, writing one, and the push that cuts a stream into frames.
-use hns_encoding::Encoder;
-use hns_encoding::Refusal;
+use hns_encoder::Encoder;
+use hns_refusals::Refusal;
 ghost use mathlib.Core.Path.{_≡_};
 ghost use Prim.Native.Nat.{_+_, _-_, _≤_};
 ghost use lib.ListN.{length, take};

@@ -2,7 +2,7 @@
 // stdout has what the Rust answered. differential/answers makes both.
 //
 // A case is its kind, a network, three numbers of eight bytes, and its bytes.
-use hns_encoding::Encoder;
+use hns_encoder::Encoder;
 ghost use Prim.Native.Nat.{_+_, _<_, _≤_};
 
 const FRONT: usize = 26;
@@ -142,6 +142,15 @@ fn show_push(network: u8, bytes: &[u8], a: usize) {
     hex(&output);
 }
 
+// A list of compact sizes: its row, and the values, of which those that were not read are as they were.
+fn show_sizes(bytes: &[u8], a: usize) {
+    let mut answer = [0u64; 6];
+    let mut values = [170u64; 6];
+    hns_ffi::hns_read_compact_sizes(bytes, a, &mut values, &mut answer);
+    row(answer);
+    row(values);
+}
+
 fn answer(case: &[u8]) {
     if case.len() < FRONT {
         return;
@@ -161,8 +170,10 @@ fn answer(case: &[u8]) {
         show_header(kind, bytes, a as usize);
     } else if kind < 22 {
         show_frame(kind, network, bytes, a);
-    } else {
+    } else if kind < 23 {
         show_push(network, bytes, a as usize);
+    } else {
+        show_sizes(bytes, a as usize);
     }
     text(b"\n");
 }

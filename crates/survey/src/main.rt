@@ -2,7 +2,7 @@
 //
 // What matters is in survey_export; here are the reads, the writes and what is said where one fails. A survey without
 // its last line does not count, so none is written after a failed read or write.
-use hns_encoding::Encoder;
+use hns_encoder::Encoder;
 use libc::STDIN_FILENO;
 use libc::STDOUT_FILENO;
 use survey_export::Step;
@@ -133,8 +133,10 @@ fn turn(
 }
 
 // A proved loop has to end, and nothing says that a log does, so the turns are counted down from a number that no log
-// uses up.
-fn run(store: &mut [u8], chunk: &mut [u8], output: &mut [u8], text: &mut [u8]) {
+// uses up. The sizes are document 01's.
+fn run(store: &mut [u8], chunk: &mut [u8], output: &mut [u8], text: &mut [u8])
+    requires { ⌜ (length (now chunk) ≡ 4096) × ((length (now store) ≡ 24576) × (length (now output) ≡ 24576)) ⌝ }
+{
     let mut held: usize = 0;
     let mut position: usize = 0;
     let mut turns: u64 = 18_446_744_073_709_551_615;

@@ -1,6 +1,6 @@
 // Surveys of small logs made here, by the survey program's chunks, store and output: a line for each log, and its
 // export below it; of a long one, how long the export is and its last line. The file stdout has the lines that are right.
-use hns_encoding::Encoder;
+use hns_encoder::Encoder;
 use hns_p2p_frame::Encoded;
 use hns_p2p_frame::NetworkMagic;
 use survey_export::Step;

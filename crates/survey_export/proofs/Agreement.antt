@@ -8,7 +8,7 @@ use lib.ListN.{length, take, drop, length-drop, take-append-drop}
 use lib.Seq.{length-take-le}
 use lib.Dec.{leb, ltb, eqb, T, eqb→eq}
 use borrow.Author.Tests.{ltb-true, eqb-true, eqb-false}
-use Rattle.hns_encoding.specs.declared.Refusal.{Refusal}
+use Rattle.hns_refusals.specs.declared.Refusal.{Refusal}
 use Rattle.hns_encoding.specs.Bytes.{Bytes, none}
 use Rattle.hns_encoding.specs.Format.{All}
 use Rattle.hns_encoding.specs.Put.{splice}

@@ -3,7 +3,7 @@ use Prim.Native.Nat.{ℕ}
 use mathlib.Core.Path.{_≡_, sym, ap, _∙_}
 use mathlib.Core.List.{List}
 use lib.ListN.{take}
-use Rattle.hns_encoding.specs.declared.Refusal.{Refusal}
+use Rattle.hns_refusals.specs.declared.Refusal.{Refusal}
 use Rattle.hns_encoding.specs.Put.{Put}
 use Rattle.hns_p2p_frame.specs.declared.NetworkMagic.the-variants.{Mainnet}
 use Rattle.hns_p2p_frame.specs.declared.Pushed.{Pushed}

@@ -3,3 +3,4 @@ pub mod Determined
 pub mod Lines
 pub mod Chunks
 pub mod Agreement
+pub mod Example

@@ -4,7 +4,7 @@ use mathlib.Core.Path.{_≡_}
 use mathlib.Core.List.{List, [], _∷_, _++_}
 use lib.ListN.{length, take, drop}
 use lib.Dec.{eqb}
-use Rattle.hns_encoding.specs.declared.Refusal.{Refusal}
+use Rattle.hns_refusals.specs.declared.Refusal.{Refusal}
 use Rattle.hns_encoding.specs.Bytes.{choose}
 use Rattle.hns_encoding.specs.Put.{splice, advance}
 use Rattle.hns_p2p_frame.specs.declared.NetworkMagic.the-variants.{Mainnet}

@@ -1,5 +1,5 @@
 // The exported survey: the lines of a push, and a survey's last line.
-use hns_encoding::Encoder;
+use hns_encoder::Encoder;
 use hns_p2p_frame::NetworkMagic;
 use hns_p2p_frame::Prefix;
 use hns_p2p_frame::Pushed;

@@ -1,13 +1,13 @@
 // Document 01's examples of the refusals and compact sizes of hns_encoding and hns_header_consensus, and the genesis
 // headers, a line a case: what was asked and what was answered. The file stdout has the lines that are right.
-use hns_encoding::Encoder;
+use hns_encoder::Encoder;
 use hns_encoding::Finished;
 use hns_encoding::Number;
-use hns_encoding::Refusal;
 use hns_encoding::Slice;
 use hns_header_consensus::Answer;
 use hns_header_consensus::Decoded;
 use hns_header_consensus::Header;
+use hns_refusals::Refusal;
 
 fn text(t: &[u8]) {
     io::write_all(1, t);
@@ -19,12 +19,10 @@ fn value(n: u64) {
 }
 
 fn hex(bytes: &[u8]) {
+    let mut digits = [0u8; 512];
+    let e = survey_export::put_hex(Encoder::new(), &mut digits, bytes);
     text(b" ");
-    let mut i = 0;
-    while i < bytes.len() {
-        io::print_hex(1, bytes[i] as u64, 2);
-        i += 1;
-    }
+    text(survey_export::first(&digits, e.position));
 }
 
 fn refused(r: Refusal) {
@@ -111,51 +109,35 @@ fn numbers() {
     );
 }
 
+fn compact(name: &[u8], bytes: &[u8]) {
+    text(b"compact ");
+    number(name, hns_encoding::read_compact_size(bytes, 0));
+}
+
 fn compact_sizes() {
-    number(b"compact fc", hns_encoding::read_compact_size(b"\xfc", 0));
-    number(
-        b"compact fdfd00",
-        hns_encoding::read_compact_size(b"\xfd\xfd\x00", 0),
+    compact(b"fc", b"\xfc");
+    compact(b"fdfd00", b"\xfd\xfd\x00");
+    compact(b"fdfc00", b"\xfd\xfc\x00");
+    compact(b"fd0a00", b"\xfd\x0a\x00");
+    compact(b"fe00000100", b"\xfe\x00\x00\x01\x00");
+    compact(b"feffff0000", b"\xfe\xff\xff\x00\x00");
+    compact(
+        b"ff0000000001000000",
+        b"\xff\x00\x00\x00\x00\x01\x00\x00\x00",
     );
-    number(
-        b"compact fdfc00",
-        hns_encoding::read_compact_size(b"\xfd\xfc\x00", 0),
+    compact(
+        b"ffffffffff00000000",
+        b"\xff\xff\xff\xff\xff\x00\x00\x00\x00",
     );
-    number(
-        b"compact fd0a00",
-        hns_encoding::read_compact_size(b"\xfd\x0a\x00", 0),
-    );
-    number(
-        b"compact fe00000100",
-        hns_encoding::read_compact_size(b"\xfe\x00\x00\x01\x00", 0),
-    );
-    number(
-        b"compact feffff0000",
-        hns_encoding::read_compact_size(b"\xfe\xff\xff\x00\x00", 0),
-    );
-    number(
-        b"compact ff0000000001000000",
-        hns_encoding::read_compact_size(b"\xff\x00\x00\x00\x00\x01\x00\x00\x00", 0),
-    );
-    number(
-        b"compact ffffffffff00000000",
-        hns_encoding::read_compact_size(b"\xff\xff\xff\xff\xff\x00\x00\x00\x00", 0),
-    );
-    number(
-        b"compact of nothing",
-        hns_encoding::read_compact_size(b"", 0),
-    );
-    number(
-        b"compact fd00",
-        hns_encoding::read_compact_size(b"\xfd\x00", 0),
-    );
+    compact(b"of nothing", b"");
+    compact(b"fd00", b"\xfd\x00");
     number(
         b"compact 00ff at 1",
         hns_encoding::read_compact_size(b"\x00\xff", 1),
     );
 }
 
-fn bounded() {
+fn slices() {
     number(
         b"compact fde903 up to 1000",
         hns_encoding::read_compact_usize(b"\xfd\xe9\x03", 0, 1_000),
@@ -180,6 +162,9 @@ fn bounded() {
         b"2^64 - 1 bytes of 01 at 1",
         hns_encoding::read_slice(b"\x01", 1, 18_446_744_073_709_551_615),
     );
+}
+
+fn bounded() {
     slice(
         b"3 bytes of 010203 up to 2",
         hns_encoding::read_bounded(b"\x01\x02\x03", 0, 3, 2),
@@ -200,6 +185,9 @@ fn bounded() {
         b"varbytes 030a",
         hns_encoding::read_varbytes(b"\x03\x0a", 0, 9),
     );
+}
+
+fn finishes() {
     finished(b"finish 00 at 0", hns_encoding::finish(b"\x00", 0));
     finished(b"finish 00 at 1", hns_encoding::finish(b"\x00", 1));
     finished(b"finish 00 at 2", hns_encoding::finish(b"\x00", 2));
@@ -352,7 +340,9 @@ fn headers() {
 fn main() {
     numbers();
     compact_sizes();
+    slices();
     bounded();
+    finishes();
     puts();
     put_compacts();
     genesis(b"mainnet", 1_580_745_078, 0x1c00_ffff);

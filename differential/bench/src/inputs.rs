@@ -9,8 +9,10 @@ pub struct Inputs {
     pub mixed: Vec<u8>,
     /// One frame with 8,000,000 bytes of payload.
     pub large: Vec<u8>,
+    /// Compact sizes of all widths, and of one byte alone, with what they say.
     pub compact: Vec<u8>,
     pub values: Vec<u64>,
+    pub short: Vec<u8>,
     pub headers: Vec<u8>,
 }
 
@@ -24,6 +26,7 @@ impl Inputs {
         let mut encoder = hns_encoding::Encoder::new();
         values.iter().for_each(|v| encoder.put_compact_size(*v));
         let compact = encoder.into_bytes();
+        let short = values.iter().map(|v| (v % 253) as u8).collect();
         let headers = noise.bytes(236 * 2000);
         Self {
             small,
@@ -31,6 +34,7 @@ impl Inputs {
             large,
             compact,
             values,
+            short,
             headers,
         }
     }

@@ -38,6 +38,10 @@ fn main() {
     for row in rows::NAMES {
         measure(rows::row(row, &inputs, &mut buffers), runs);
     }
+    println!("beside the Rust inlined, where a call costs more than the work:");
+    for row in rows::INLINED {
+        measure(rows::row(row, &inputs, &mut buffers), runs);
+    }
 }
 
 fn machine() {

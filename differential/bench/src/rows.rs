@@ -30,7 +30,8 @@ impl Buffers {
     }
 }
 
-pub const NAMES: [&str; 18] = [
+/// Like beside like: a call beside a call, a list in one call beside the Rust inlined.
+pub const NAMES: [&str; 17] = [
     "push, frames of 30 bytes, chunks of 4,096",
     "push, frames of 30 bytes, chunks of 65,536",
     "push, frames of 30 bytes, walked, 4,096",
@@ -42,13 +43,21 @@ pub const NAMES: [&str; 18] = [
     "push, 8,000,000 of payload, whole",
     "frame prefix, frames of 30 bytes",
     "frame prefix, mixed frames",
-    "read compact sizes",
-    "read compact sizes, Rust inlined",
-    "put compact sizes",
-    "put compact sizes, Rust inlined",
+    "read compact sizes, a list",
+    "read compact sizes, a call each",
+    "put compact sizes, a call each",
     "decode headers",
     "encode headers",
     "write frames with 21 bytes of payload",
+];
+
+/// What is left beside the Rust inlined: a list of the least work, and a call of the port for each,
+/// which a library behind a C boundary costs.
+pub const INLINED: [&str; 4] = [
+    "read compact sizes of one byte, a list",
+    "read compact sizes, Rust inlined",
+    "read compact sizes of one byte, Rust inlined",
+    "put compact sizes, Rust inlined",
 ];
 
 pub fn row<'a>(name: &'static str, inputs: &'a Inputs, buffers: &'a mut Buffers) -> Row<'a> {
@@ -56,6 +65,7 @@ pub fn row<'a>(name: &'static str, inputs: &'a Inputs, buffers: &'a mut Buffers)
         _ if name.contains("30 bytes") || name.starts_with("write") => &inputs.small,
         _ if name.contains("mixed") => &inputs.mixed,
         _ if name.contains("8,000,000") => &inputs.large,
+        _ if name.contains("of one byte") => &inputs.short,
         _ if name.contains("compact") => &inputs.compact,
         _ => &inputs.headers,
     };
@@ -65,12 +75,18 @@ pub fn row<'a>(name: &'static str, inputs: &'a Inputs, buffers: &'a mut Buffers)
         _ => bytes.len(),
     };
     let walked = name.contains("walked");
+    let list = name.ends_with("list");
     let inlined = name.ends_with("inlined");
     let buffers = &*buffers;
     let (port, rust): (Side<'a>, Side<'a>) = match name.split([' ', ',']).next() {
         Some("push") => push(bytes, chunk, walked, buffers),
         Some("frame") => prefix(bytes),
-        Some("read") => (Box::new(|| port_read(bytes)), rust_read(bytes, inlined)),
+        Some("read") if list => read_list(bytes, inputs.values.len()),
+        Some("read") if inlined => (
+            Box::new(|| port_read(bytes)),
+            Box::new(|| rust_inlined(bytes)),
+        ),
+        Some("read") => (Box::new(|| port_read(bytes)), Box::new(|| rust_read(bytes))),
         Some("put") => put(&inputs.values, inlined, buffers),
         Some("decode") => (
             Box::new(|| decode_port(bytes)),
@@ -171,18 +187,36 @@ fn one_size(decoder: &mut hns_encoding::Decoder<'_>) -> Result<u64, hns_encoding
     decoder.read_compact_size()
 }
 
-fn rust_read(bytes: &[u8], inlined: bool) -> Side<'_> {
-    Box::new(move || {
+fn rust_read(bytes: &[u8]) {
+    let mut decoder = hns_encoding::Decoder::new(bytes);
+    while decoder.remaining() > 0 {
+        black_box(one_size(&mut decoder).expect("a good one"));
+    }
+}
+
+fn rust_inlined(bytes: &[u8]) {
+    let mut decoder = hns_encoding::Decoder::new(bytes);
+    while decoder.remaining() > 0 {
+        black_box(decoder.read_compact_size().expect("a good one"));
+    }
+}
+
+/// All of them into a slice: one call of the port, and the Rust's reads inlined.
+fn read_list(bytes: &[u8], count: usize) -> (Side<'_>, Side<'_>) {
+    let (mut ported, mut published) = (vec![0; count], vec![0; count]);
+    let on_port = move || {
+        let read = port::Decoder::new(bytes).read_compact_sizes(&mut ported);
+        assert_eq!(read, count);
+        black_box(&mut ported);
+    };
+    let on_rust = move || {
         let mut decoder = hns_encoding::Decoder::new(bytes);
-        if inlined {
-            while decoder.remaining() > 0 {
-                black_box(decoder.read_compact_size().expect("a good one"));
-            }
+        for value in &mut published {
+            *value = decoder.read_compact_size().expect("a good one");
         }
-        while decoder.remaining() > 0 {
-            black_box(one_size(&mut decoder).expect("a good one"));
-        }
-    })
+        black_box(&mut published);
+    };
+    (Box::new(on_port), Box::new(on_rust))
 }
 
 #[inline(never)]

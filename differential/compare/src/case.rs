@@ -16,6 +16,7 @@ pub enum Kind {
     Bounded,
     Varbytes,
     Finish,
+    CompactSizes,
     Reads,
     Puts,
     HeaderDecode,
@@ -29,7 +30,7 @@ pub enum Kind {
 }
 
 impl Kind {
-    pub const ALL: [Self; 20] = [
+    pub const ALL: [Self; 21] = [
         Self::ReadU8,
         Self::ReadU16,
         Self::ReadU32,
@@ -40,6 +41,7 @@ impl Kind {
         Self::Bounded,
         Self::Varbytes,
         Self::Finish,
+        Self::CompactSizes,
         Self::Reads,
         Self::Puts,
         Self::HeaderDecode,
@@ -74,6 +76,7 @@ impl Kind {
             Self::Bounded => "read_bounded_vec (place, length, maximum)",
             Self::Varbytes => "read_varbytes (place, maximum)",
             Self::Finish => "finish (place)",
+            Self::CompactSizes => "compact sizes in a list (place, room)",
             Self::Reads => "reads one after another (kinds)",
             Self::Puts => "puts (place, room, then put and value)",
             Self::HeaderDecode => "Header::decode and encode",

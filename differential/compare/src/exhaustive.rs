@@ -4,7 +4,8 @@ use crate::case::{Case, Kind, NETWORKS};
 use crate::generate;
 use crate::rng::Rng;
 
-/// All bytes up to three as a compact size; of three, those that begin with `first` or more.
+/// All bytes up to three as a compact size; of three, those that begin with `first` or more, with
+/// the end right after them and with more bytes than the longest form has.
 pub fn compact_sizes(first: u8, run: &mut impl FnMut(&Case)) {
     let mut case = Case::new(Kind::CompactSize, Vec::new(), &[]);
     run(&case);
@@ -19,6 +20,8 @@ pub fn compact_sizes(first: u8, run: &mut impl FnMut(&Case)) {
             }
             for c in 0..=255 {
                 case.bytes = vec![a, b, c];
+                run(&case);
+                case.bytes = vec![a, b, c, 0, 0, 0, 0, 0, 0, 0];
                 run(&case);
             }
         }

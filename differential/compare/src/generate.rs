@@ -30,6 +30,7 @@ pub fn case(rng: &mut Rng, kind: Kind) -> Case {
         }
         Kind::CompactSize | Kind::CompactUsize | Kind::Varbytes => counted(rng, kind),
         Kind::Slice | Kind::Bounded => sliced(rng, kind),
+        Kind::CompactSizes => sizes(rng),
         Kind::Reads => reads(rng),
         Kind::Puts => puts(rng),
         Kind::HeaderDecode | Kind::HeaderRead | Kind::HeaderPut => header(rng, kind),
@@ -131,6 +132,24 @@ fn sliced(rng: &mut Rng, kind: Kind) -> Case {
         _ => around(rng, length.min(1 << 40) as usize) as u64,
     };
     Case::new(kind, bytes, &[at, length, maximum])
+}
+
+/// Compact sizes one after another, most of them good, and room for some, all or more.
+fn sizes(rng: &mut Rng) -> Case {
+    let start = rng.index(3);
+    let mut bytes = rng.bytes(start);
+    let n = rng.index(30);
+    let mut encoder = hns_encoding::Encoder::new();
+    (0..n).for_each(|_| encoder.put_compact_size(edge(rng)));
+    bytes.extend_from_slice(&encoder.into_bytes());
+    if rng.one_in(3) {
+        bytes.extend_from_slice(&compact(rng));
+    }
+    if rng.one_in(4) {
+        damage(rng, &mut bytes);
+    }
+    let room = around(rng, n) + rng.index(3);
+    Case::new(Kind::CompactSizes, bytes, &[start as u64, room as u64])
 }
 
 fn reads(rng: &mut Rng) -> Case {

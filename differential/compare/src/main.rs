@@ -97,6 +97,7 @@ fn compare(options: &Options, run: &mut Run) {
 
 fn check(case: &Case) -> Verdict {
     match case.kind {
+        Kind::CompactSizes => reads::check_sizes(case),
         Kind::Reads => reads::check_sequence(case),
         Kind::Puts => puts::check(case),
         Kind::HeaderDecode => headers::decode(case),

@@ -109,6 +109,26 @@ fn read_published<'input>(
     })
 }
 
+/// A list in one call is the Rust's reads one after another up to the first that is refused.
+pub fn check_sizes(case: &Case) -> Verdict {
+    let (mut port, mut rust) = sides(case);
+    let untouched: Vec<u64> = (0..case.number(1)).map(|i| i ^ 0xa5a5).collect();
+    let mut ported = untouched.clone();
+    let count = port.read_compact_sizes(&mut ported);
+    let mut published = untouched;
+    let mut read = 0;
+    let mut next = rust.position();
+    for place in &mut published {
+        let Ok(value) = rust.read_compact_size() else {
+            break;
+        };
+        *place = value;
+        next = rust.position();
+        read += 1;
+    }
+    Verdict::of(&(count, port.position(), ported), &(read, next, published))
+}
+
 /// Each number of the case is a kind of read, with limits from its upper bytes.
 pub fn check_sequence(case: &Case) -> Verdict {
     let mut port = hns_port::Decoder::new(&case.bytes);

@@ -1,10 +1,16 @@
-use crate::{Refusal, ffi, row};
+use crate::{Refusal, Row, answer, ffi, row};
 
 /// Reads from the front of a slice on. A refused read leaves the place where it was.
 #[derive(Clone, Copy, Debug)]
 pub struct Decoder<'input> {
     input: &'input [u8],
     position: usize,
+}
+
+/// A value, a first place or a count, and the place after.
+#[inline]
+fn two(row: &Row) -> (u64, u64) {
+    (row.at(1), row.at(2))
 }
 
 type Read = unsafe extern "C" fn(*const u8, usize, usize, *mut u64, usize);
@@ -56,6 +62,20 @@ impl<'input> Decoder<'input> {
         self.number(ffi::hns_read_compact_size)
     }
 
+    /// Compact sizes one after another, up to the first that is refused: how many were read.
+    #[inline]
+    pub fn read_compact_sizes(&mut self, values: &mut [u64]) -> usize {
+        let (input, len, at) = self.parts();
+        let (to, room) = (values.as_mut_ptr(), values.len());
+        // SAFETY: the pointers and counts are those of slices, and they do not overlap.
+        let call = |row, n| unsafe {
+            ffi::hns_read_compact_sizes(input, len, at, to, room, row, n);
+        };
+        let (count, next) = answer(call, two);
+        self.position = next as usize;
+        count as usize
+    }
+
     #[inline]
     pub fn read_compact_usize(&mut self, maximum: usize) -> Result<usize, Refusal> {
         let (input, len, at) = self.parts();
@@ -63,7 +83,7 @@ impl<'input> Decoder<'input> {
         let call = |answer, n| unsafe {
             ffi::hns_read_compact_usize(input, len, at, maximum, answer, n);
         };
-        let [_, value, next, ..] = row(call)?;
+        let (value, next) = row(call, two)?;
         self.position = next as usize;
         Ok(value as usize)
     }
@@ -97,8 +117,8 @@ impl<'input> Decoder<'input> {
     pub fn finish(self) -> Result<(), Refusal> {
         let (input, len, at) = self.parts();
         // SAFETY: as above.
-        row(|answer, n| unsafe { ffi::hns_finish(input, len, at, answer, n) })?;
-        Ok(())
+        let call = |answer, n| unsafe { ffi::hns_finish(input, len, at, answer, n) };
+        row(call, |_| ())
     }
 
     #[inline]
@@ -110,14 +130,15 @@ impl<'input> Decoder<'input> {
     fn number(&mut self, read: Read) -> Result<u64, Refusal> {
         let (input, len, at) = self.parts();
         // SAFETY: as above.
-        let [_, value, next, ..] = row(|answer, n| unsafe { read(input, len, at, answer, n) })?;
+        let call = |answer, n| unsafe { read(input, len, at, answer, n) };
+        let (value, next) = row(call, two)?;
         self.position = next as usize;
         Ok(value)
     }
 
     #[inline]
     fn slice(&mut self, read: impl FnOnce(*mut u64, usize)) -> Result<&'input [u8], Refusal> {
-        let [_, start, next, ..] = row(read)?;
+        let (start, next) = row(read, two)?;
         self.position = next as usize;
         // No byte past the end is answered, but no bytes may be asked for past the end.
         Ok(self.input.get(start as usize..next as usize).unwrap_or(&[]))

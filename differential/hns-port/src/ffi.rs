@@ -44,6 +44,15 @@ unsafe extern "C" {
         answer: *mut u64,
         answer_len: usize,
     );
+    pub fn hns_read_compact_sizes(
+        input: *const u8,
+        input_len: usize,
+        position: usize,
+        values: *mut u64,
+        values_len: usize,
+        answer: *mut u64,
+        answer_len: usize,
+    );
     pub fn hns_read_slice(
         input: *const u8,
         input_len: usize,

@@ -1,4 +1,4 @@
-use crate::{Refusal, Row, ffi, row};
+use crate::{Refusal, answer, ffi, row};
 
 pub const FRAME_HEADER_SIZE: usize = 9;
 
@@ -26,13 +26,13 @@ pub fn decode_frame_prefix(
 ) -> Result<Option<(Frame<'_>, usize)>, Refusal> {
     let (bytes, len) = (input.as_ptr(), input.len());
     // SAFETY: the pointers and counts are those of slices, and they do not overlap.
-    let [_, whole, kind, length, taken, _] = row(|answer, n| unsafe {
+    let call = |answer, n| unsafe {
         ffi::hns_decode_frame_prefix(network as u8, bytes, len, answer, n);
-    })?;
-    if whole == 0 {
-        return Ok(None);
-    }
-    Ok(Some((frame(input, kind, length), taken as usize)))
+    };
+    row(call, |row| match row.at(1) {
+        0 => None,
+        _ => Some((frame(input, row.at(2), row.at(3)), row.at(4) as usize)),
+    })
 }
 
 /// A slice that is one frame.
@@ -40,10 +40,10 @@ pub fn decode_frame_prefix(
 pub fn decode_exact(network: NetworkMagic, input: &[u8]) -> Result<Frame<'_>, Refusal> {
     let (bytes, len) = (input.as_ptr(), input.len());
     // SAFETY: as above.
-    let [_, kind, length, ..] = row(|answer, n| unsafe {
+    let call = |answer, n| unsafe {
         ffi::hns_decode_exact(network as u8, bytes, len, answer, n);
-    })?;
-    Ok(frame(input, kind, length))
+    };
+    row(call, |row| frame(input, row.at(1), row.at(2)))
 }
 
 #[inline]
@@ -65,10 +65,10 @@ pub fn encode(
     let (bytes, len) = (payload.as_ptr(), payload.len());
     let (to, room) = (out.as_mut_ptr(), out.len());
     // SAFETY: as above.
-    let [_, written, ..] = row(|answer, n| unsafe {
+    let call = |answer, n| unsafe {
         ffi::hns_encode_frame(network as u8, packet_type, bytes, len, to, room, answer, n);
-    })?;
-    Ok(written as usize)
+    };
+    row(call, |row| row.at(1) as usize)
 }
 
 /// What a push delivered: as many frames, their encodings this long at the output's front.
@@ -94,32 +94,37 @@ pub fn push(
     input: &[u8],
     output: &mut [u8],
 ) -> Pushed {
-    let mut row = Row::default();
+    let (bytes, len) = (input.as_ptr(), input.len());
+    let (kept, room) = (store.as_mut_ptr(), store.len());
+    let (to, most) = (output.as_mut_ptr(), output.len());
     // SAFETY: as above.
-    unsafe {
+    let call = |row, n| unsafe {
         ffi::hns_push(
             network as u8,
-            store.as_mut_ptr(),
-            store.len(),
+            kept,
+            room,
             held,
-            input.as_ptr(),
-            input.len(),
-            output.as_mut_ptr(),
-            output.len(),
-            row.as_mut_ptr(),
-            row.len(),
+            bytes,
+            len,
+            to,
+            most,
+            row,
+            n,
         );
-    }
-    let [number, a, b, c, last, _] = row;
-    if number != 0 {
-        let answer = Err(Refusal { number, a, b, c });
-        let held = last as usize;
-        return Pushed { answer, held };
-    }
-    let (frames, bytes) = (a as usize, b as usize);
-    let answer = Ok(Delivered { frames, bytes });
-    let held = c as usize;
-    Pushed { answer, held }
+    };
+    answer(call, |row| match row.at(0) {
+        0 => Pushed {
+            answer: Ok(Delivered {
+                frames: row.at(1) as usize,
+                bytes: row.at(2) as usize,
+            }),
+            held: row.at(3) as usize,
+        },
+        _ => Pushed {
+            answer: Err(row.refusal()),
+            held: row.at(4) as usize,
+        },
+    })
 }
 
 /// A stream of frames over a lent store.

@@ -1,4 +1,4 @@
-use std::mem::offset_of;
+use std::mem::{MaybeUninit, offset_of};
 
 use crate::{Encoder, Refusal, Row, ffi, row};
 
@@ -31,28 +31,21 @@ impl Header {
     #[inline]
     pub fn decode(input: &[u8]) -> Result<Self, Refusal> {
         let (bytes, len) = (input.as_ptr(), input.len());
-        let mut header = Self::default();
-        let (hashes, m) = (header.hashes_mut(), HASHES_SIZE);
         // SAFETY: the pointers and counts are those of slices, and they do not overlap.
-        let row = row(|answer, n| unsafe {
+        let call = |hashes, m, answer, n| unsafe {
             ffi::hns_decode_header(bytes, len, hashes, m, answer, n);
-        })?;
-        header.numbers(row);
-        Ok(header)
+        };
+        Ok(Self::filled(call)?.0)
     }
 
     /// A header at a place, and the place after it.
     #[inline]
     pub fn read(input: &[u8], position: usize) -> Result<(Self, usize), Refusal> {
         let (bytes, len) = (input.as_ptr(), input.len());
-        let mut header = Self::default();
-        let (hashes, m) = (header.hashes_mut(), HASHES_SIZE);
         // SAFETY: as above.
-        let row = row(|answer, n| unsafe {
+        Self::filled(|hashes, m, answer, n| unsafe {
             ffi::hns_read_header(bytes, len, position, hashes, m, answer, n);
-        })?;
-        header.numbers(row);
-        Ok((header, row[1] as usize))
+        })
     }
 
     #[inline]
@@ -72,24 +65,31 @@ impl Header {
         });
     }
 
-    /// Where the library writes the hashes: HASHES_SIZE bytes of this header.
+    /// The header that a call fills, hashes in place and numbers in a row, and the place after it.
     #[inline]
-    fn hashes_mut(&mut self) -> *mut u8 {
-        // SAFETY: the place is within the header.
-        unsafe { (&raw mut *self).cast::<u8>().add(HASHES) }
+    fn filled(
+        call: impl FnOnce(*mut u8, usize, *mut u64, usize),
+    ) -> Result<(Self, usize), Refusal> {
+        let mut header = MaybeUninit::<Self>::uninit();
+        let to = header.as_mut_ptr();
+        // SAFETY: the hashes are within the header.
+        let hashes = unsafe { to.cast::<u8>().add(HASHES) };
+        // SAFETY: the places of fields.
+        let numbers = |row: &Row| unsafe {
+            (&raw mut (*to).nonce).write(row.at(2) as u32);
+            (&raw mut (*to).time).write(row.at(3));
+            (&raw mut (*to).version).write(row.at(4) as u32);
+            (&raw mut (*to).bits).write(row.at(5) as u32);
+            row.at(1) as usize
+        };
+        let next = row(|answer, n| call(hashes, HASHES_SIZE, answer, n), numbers)?;
+        // SAFETY: an accepted call has stored every hash, and the other fields were written here.
+        Ok((unsafe { header.assume_init() }, next))
     }
 
     #[inline]
     fn hashes(&self) -> *const u8 {
         // SAFETY: as above.
         unsafe { (&raw const *self).cast::<u8>().add(HASHES) }
-    }
-
-    #[inline]
-    fn numbers(&mut self, [_, _, nonce, time, version, bits]: Row) {
-        self.nonce = nonce as u32;
-        self.time = time;
-        self.version = version as u32;
-        self.bits = bits as u32;
     }
 }

@@ -5,6 +5,8 @@
 //! null, a count, and no overlap of what is lent to be changed. So there is nothing left to test
 //! here, and every function is safe.
 
+use std::mem::MaybeUninit;
+
 mod encoding;
 pub mod ffi;
 mod frame;
@@ -29,17 +31,39 @@ pub struct Refusal {
     pub c: u64,
 }
 
-/// An answer of the library.
-type Row = [u64; 6];
+/// An answer of the library: six numbers.
+struct Row([u64; 6]);
 
-/// The row that a call stores, or its refusal.
-#[inline]
-fn row(call: impl FnOnce(*mut u64, usize)) -> Result<Row, Refusal> {
-    let mut row = Row::default();
-    call(row.as_mut_ptr(), row.len());
-    let [number, a, b, c, ..] = row;
-    if number == 0 {
-        return Ok(row);
+impl Row {
+    /// One of the numbers, loaded by itself: a load of two that were just stored one by one waits
+    /// for both stores, and the compiler would join two loads.
+    #[inline]
+    fn at(&self, i: usize) -> u64 {
+        // SAFETY: the place of a number of the row.
+        unsafe { (&raw const self.0[i]).read_volatile() }
     }
-    Err(Refusal { number, a, b, c })
+
+    #[cold]
+    fn refusal(&self) -> Refusal {
+        let [number, a, b, c, ..] = self.0;
+        Refusal { number, a, b, c }
+    }
+}
+
+/// What a call's row says.
+#[inline]
+fn answer<T>(call: impl FnOnce(*mut u64, usize), says: impl FnOnce(&Row) -> T) -> T {
+    let mut row = MaybeUninit::<Row>::uninit();
+    call(row.as_mut_ptr().cast(), 6);
+    // SAFETY: every call stores all six numbers where there is room for them.
+    says(unsafe { row.assume_init_ref() })
+}
+
+/// What the row of an accepted call says, or the refusal.
+#[inline]
+fn row<T>(call: impl FnOnce(*mut u64, usize), says: impl FnOnce(&Row) -> T) -> Result<T, Refusal> {
+    answer(call, |row| match row.at(0) {
+        0 => Ok(says(row)),
+        _ => Err(row.refusal()),
+    })
 }

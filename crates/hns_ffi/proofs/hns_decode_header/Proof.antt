@@ -2,11 +2,11 @@ use borrow.Author.Needs.{needs}
 use Rattle.hns_ffi.proofs.hns_decode_header.Statement.{statement}
 use Rattle.hns_ffi.proofs.hns_decode_header.Tie as tie
 
-decode-requires : tie.Need-decode-requires
-decode-requires c κs = search needs
-
 keep-hashes-requires : tie.Need-keep-hashes-requires
 keep-hashes-requires c κs = search needs
+
+decode-requires : tie.Need-decode-requires
+decode-requires c κs = search needs
 
 of-header-requires : tie.Need-of-header-requires
 of-header-requires c κs = search needs
@@ -22,15 +22,15 @@ same-length-2 c = search needs
 
 returns : tie.Need-returns
 returns c =
-    let d = c .before .before .before .before .before .before .before .before .before .before .decode .ensures in
-    (cc (c .before .before .store .ensures, c .before .before .before .of-header .ensures, d), cc (c .before .before .before .before .before .before .before .keep-hashes .ensures, d))
+    let d = c .before .before .before .before .before .before .decode .ensures in
+    (cc (c .before .before .store .ensures, c .before .before .before .of-header .ensures, d), c .before .before .before .before .before .before .before .before .before .keep-hashes .ensures)
 
 pub hns-decode-header-spec : {M : Type 1} → statement M
 hns-decode-header-spec =
     tie.close
     (tie.spec
-    decode-requires
     keep-hashes-requires
+    decode-requires
     of-header-requires
     store-requires
     same-length

@@ -2,11 +2,11 @@ use borrow.Author.Needs.{needs}
 use Rattle.hns_ffi.proofs.hns_read_header.Statement.{statement}
 use Rattle.hns_ffi.proofs.hns_read_header.Tie as tie
 
+keep-hashes-at-requires : tie.Need-keep-hashes-at-requires
+keep-hashes-at-requires c κs = search needs
+
 read-header-requires : tie.Need-read-header-requires
 read-header-requires c κs = search needs
-
-keep-hashes-requires : tie.Need-keep-hashes-requires
-keep-hashes-requires c κs = search needs
 
 of-header-requires : tie.Need-of-header-requires
 of-header-requires c κs = search needs
@@ -22,15 +22,15 @@ same-length-2 c = search needs
 
 returns : tie.Need-returns
 returns c =
-    let d = c .before .before .before .before .before .before .before .before .before .before .read-header .ensures in
-    (cc (c .before .before .store .ensures, c .before .before .before .of-header .ensures, d), cc (c .before .before .before .before .before .before .before .keep-hashes .ensures, d))
+    let d = c .before .before .before .before .before .before .read-header .ensures in
+    (cc (c .before .before .store .ensures, c .before .before .before .of-header .ensures, d), c .before .before .before .before .before .before .before .before .before .keep-hashes-at .ensures)
 
 pub hns-read-header-spec : {M : Type 1} → statement M
 hns-read-header-spec =
     tie.close
     (tie.spec
+    keep-hashes-at-requires
     read-header-requires
-    keep-hashes-requires
     of-header-requires
     store-requires
     same-length

@@ -1,5 +1,5 @@
 use borrow.Author.Needs.{needs}
-use Rattle.hns_encoding.specs.Refusals.{unexpectedEnd}
+use Rattle.hns_refusals.specs.Refusals.{unexpectedEnd}
 use Rattle.hns_encoding.specs.Bytes.{stop}
 use Rattle.hns_header_consensus.specs.Answers.{decodedOf}
 use Rattle.hns_header_consensus.proofs.Headers.{placed, ends}

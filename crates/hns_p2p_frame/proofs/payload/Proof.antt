@@ -4,7 +4,7 @@ use mathlib.Core.Path.{_≡_, sym}
 use mathlib.Core.List.{List, []}
 use native.Mathlib.Omega.{arith}
 use lib.ListN.{length}
-use Rattle.hns_encoding.specs.declared.Refusal.{Refusal}
+use Rattle.hns_refusals.specs.declared.Refusal.{Refusal}
 use Rattle.hns_encoding.specs.Bytes.{part}
 use Rattle.hns_p2p_frame.specs.declared.NetworkMagic.{NetworkMagic}
 use Rattle.hns_p2p_frame.specs.declared.Prefix.{Prefix}

@@ -2,7 +2,7 @@
 use Prim.Native.Nat.{ℕ}
 use mathlib.Core.Path.{_≡_, ap}
 use native.Mathlib.Omega.{arith}
-use Rattle.hns_encoding.specs.declared.Refusal.{Refusal}
+use Rattle.hns_refusals.specs.declared.Refusal.{Refusal}
 use Rattle.hns_p2p_frame.specs.declared.Pushed.the-variants.{Refused}
 use Rattle.hns_encoding.proofs.Puts.{put-length}
 use Rattle.hns_p2p_frame.proofs.Settles.{away-18, away-6, away-17, away-16, settles}

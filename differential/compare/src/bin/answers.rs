@@ -39,6 +39,7 @@ fn main() -> ExitCode {
     let mut list = List::default();
     list.numbers();
     list.compact_sizes();
+    list.sizes();
     list.slices();
     list.puts();
     list.headers();
@@ -130,6 +131,43 @@ impl List {
                 self.read(5, &wide, 0, value, 0);
             }
         }
+    }
+
+    /// Lists of six and of fewer, cut at each place, with a size that is not the shortest, and from
+    /// a place on.
+    fn sizes(&mut self) {
+        for values in EDGES.chunks(4) {
+            let mut to = Encoder::new();
+            values.iter().for_each(|value| to.put_compact_size(*value));
+            let bytes = to.into_bytes();
+            for length in 0..=bytes.len() {
+                self.list_of_sizes(&bytes[..length], 0);
+            }
+            let longer = [&bytes[..], &[0xfd, 0xfc, 0x00], &bytes].concat();
+            self.list_of_sizes(&longer, 0);
+            self.list_of_sizes(&longer, 1);
+            self.list_of_sizes(&longer, longer.len());
+        }
+        self.list_of_sizes(&[1, 2, 3, 4, 5, 6, 7, 8], 0);
+    }
+
+    fn list_of_sizes(&mut self, bytes: &[u8], place: usize) {
+        let mut from = Decoder::new(bytes);
+        from.read_slice(place).expect("a place within the bytes");
+        let mut values = [u64::from(PATTERN); 6];
+        let (mut count, mut next) = (0, place);
+        for to in &mut values {
+            let Ok(value) = from.read_compact_size() else {
+                break;
+            };
+            *to = value;
+            count += 1;
+            next = from.position();
+        }
+        let numbers = row(Ok([count, next as u64, 0, 0, 0]), 0);
+        let values = values.map(|value| value.to_string()).join(" ");
+        let answer = format!("{numbers} {values}");
+        self.add(23, 0, [place as u64, 0, 0], bytes, &answer);
     }
 
     fn slices(&mut self) {

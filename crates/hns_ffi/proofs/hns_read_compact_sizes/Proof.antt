@@ -1,0 +1,34 @@
+use borrow.Author.Needs.{needs}
+use Rattle.hns_ffi.proofs.hns_read_compact_sizes.Statement.{statement}
+use Rattle.hns_ffi.proofs.hns_read_compact_sizes.Tie as tie
+
+read-compact-sizes-requires : tie.Need-read-compact-sizes-requires
+read-compact-sizes-requires c κs = search needs
+
+of-sizes-requires : tie.Need-of-sizes-requires
+of-sizes-requires c κs = search needs
+
+store-requires : tie.Need-store-requires
+store-requires c κs = search needs
+
+same-length : tie.Need-same-length
+same-length c = search needs
+
+same-length-2 : tie.Need-same-length-2
+same-length-2 c = search needs
+
+returns : tie.Need-returns
+returns c =
+    let read = c .before .before .before .before .before .before .before .read-compact-sizes .ensures in
+    (cc (c .before .before .store .ensures, c .before .before .before .of-sizes .ensures, read .0), read .1)
+
+pub hns-read-compact-sizes-spec : {M : Type 1} → statement M
+hns-read-compact-sizes-spec =
+    tie.close
+    (tie.spec
+    read-compact-sizes-requires
+    of-sizes-requires
+    store-requires
+    same-length
+    same-length-2
+    returns)
