@@ -12,18 +12,11 @@ use borrow.Author.Tests.{le-leb, lt-ltb}
 use Rattle.hns_refusals.specs.Refusals.{indexOver, indexCountField, indexField}
 use Rattle.hns_encoding.specs.Bytes.{leBytes, choose, Outcome, got, stop, after, bytesAt, leAt, toEnd}
 use Rattle.hns_encoding.specs.Compact.{wideAt, compactFrom, compactAt, compactBytes, countAt, boundedAt, varbytesAt, varbytes}
-use Rattle.hns_encoding.specs.Format.{Format, nothing, num, raw, reserved, host, flag, text, counted, indexes, whole, tagged, _▸_, read, write, writeAll, many, indexesFrom, differences, flagByte, low7, ipOf, All, Rising, Fit}
+use Rattle.hns_encoding.specs.Format.{nothing, num, raw, reserved, host, flag, text, counted, indexes, whole, tagged, _▸_, read, write, writeAll, many, indexesFrom, differences, flagByte, low7, ipOf, All, Rising, Fit}
+use Rattle.hns_encoding.specs.Laws.{Reads, Backs, ReadsBack}
 use Rattle.hns_encoding.proofs.Numbers.{length-leBytes, le-leBytes, le-one}
 use Rattle.hns_encoding.proofs.Outcomes.{toEnd-fits}
 use Rattle.hns_encoding.proofs.Forms.{byte-alone, wide-bytes, wide-from, Form, small, wide, form}
-
--- wherever the bytes z stand, `item` reads them as a
-abbrev pub Reads : {A : Type 0} → (List ℕ → ℕ → Outcome A) → List ℕ → A → Type 0
-Reads item z a = (x y : List ℕ) → item (x ++ (z ++ y)) (length x) ≡ got a (length x + length z)
-
--- `item` reads what `put` wrote, of each value of which `Ok` holds
-abbrev pub Backs : {A : Type 0} → (List ℕ → ℕ → Outcome A) → (A → List ℕ) → (A → Type 0) → Type 0
-Backs {A} item put Ok = (a : A) → Ok a → Reads item (put a) a
 
 -- ---- readings in order
 
@@ -150,7 +143,7 @@ host-with z v hz h =
     (made-back (ipOf 0) (bytesAt 36) (v ++ z) (bytes-back 36 (v ++ z) size) (take-at v z 16 h))
 
 -- Reading what a format wrote gives the value back.
-pub back : (f : Format) → Backs (read f) (write f) (Fit f)
+pub back : ReadsBack
 unfolding read write
 back nothing = λ v h x y. ap (got tt) (omega arith)
 back (num n) = num-back n

@@ -8,13 +8,10 @@ use lib.ListN.{length, length-append, length-replicate}
 use lib.Dec.{eqb}
 use borrow.Author.Tests.{le-leb, lt-leb}
 use Rattle.hns_encoding.specs.Bytes.{le, Outcome, got, stop, after, part, left, bytesAt, leAt, toEnd}
-use Rattle.hns_encoding.specs.Format.{Format, nothing, num, raw, reserved, host, flag, text, counted, indexes, whole, tagged, _▸_, Value, read, write, ipOf, Fit, widths, sum, size, Fixed, short, valueAt}
+use Rattle.hns_encoding.specs.Format.{Format, nothing, num, raw, reserved, host, flag, text, counted, indexes, whole, tagged, _▸_, read, write, ipOf, widths, sum, size, Fixed, short, valueAt}
+use Rattle.hns_encoding.specs.Laws.{Block, ReadsAsBlock, WritesAsMany}
 use Rattle.hns_encoding.proofs.Numbers.{lt-or-ge, length-leBytes, part-length}
 use Rattle.hns_encoding.proofs.Outcomes.{bytes-fits, bytes-short, toEnd-fits}
-
--- how a block of reads of these widths reads
-abbrev pub Block : {A : Type 0} → Outcome A → List ℕ → A → List ℕ → ℕ → Type 0
-Block o ws v s p = (sum ws ≤ left s p → o ≡ got v (p + sum ws)) × (left s p < sum ws → o ≡ stop (short ws p (left s p)))
 
 pub sum-append : (xs ys : List ℕ) → sum (xs ++ ys) ≡ sum xs + sum ys
 sum-append [] ys = omega arith
@@ -80,7 +77,7 @@ whole-block n item ws v s p all inner =
     )
 
 -- A format of fixed size is a block.
-pub block : (f : Format) (x : Fixed f) (s : List ℕ) (p : ℕ) → Block (read f s p) (widths f) (valueAt f x s p) s p
+pub block : ReadsAsBlock
 unfolding read
 block nothing x s p = (λ h. ap (got tt) (omega arith), λ h. absurd (omega arith))
 block (num n) x s p = number-block n s p
@@ -104,7 +101,7 @@ block-short f x s p h = block f x s p .1 h
 
 -- ---- as many bytes are written
 
-pub fixed-length : (f : Format) → Fixed f → (v : Value f) → Fit f v → length (write f v) ≡ size f
+pub fixed-length : WritesAsMany
 unfolding write
 fixed-length nothing x v h = refl
 fixed-length (num n) x v h = omega (arith, length-leBytes n v)

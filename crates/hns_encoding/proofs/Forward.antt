@@ -12,22 +12,12 @@ use borrow.Author.Tests.{leb-true, lt-ltb}
 use Rattle.hns_refusals.specs.Refusals.{indexCountField, indexField}
 use Rattle.hns_encoding.specs.Bytes.{le, leBytes, Bytes, choose, Outcome, got, after, part, left, bytesAt, leAt, toEnd}
 use Rattle.hns_encoding.specs.Compact.{wideAt, compactFrom, compactAt, compactBytes, countAt, boundedAt, varbytesAt, varbytes}
-use Rattle.hns_encoding.specs.Format.{Format, nothing, num, raw, reserved, host, flag, text, counted, indexes, whole, tagged, _▸_, read, write, writeAll, many, indexesFrom, differences, flagByte, low7, ipOf, All, Rising, Fit}
+use Rattle.hns_encoding.specs.Format.{nothing, num, raw, reserved, host, flag, text, counted, indexes, whole, tagged, _▸_, read, write, writeAll, many, indexesFrom, differences, flagByte, low7, ipOf, All, Rising, Fit}
 use Rattle.hns_encoding.specs.Marks.{Mark, keep, clear, low, one, marked, markAll, extent, countOf, marksMany, hostMark, marks}
+use Rattle.hns_encoding.specs.Laws.{Wrote, Forward, WritesAgain}
 use Rattle.hns_encoding.proofs.Numbers.{bytes-take, bytes-drop, byte-below, part-length, part-below, part-bytes}
 use Rattle.hns_encoding.proofs.Outcomes.{after-got, choose-got, bytes-got, byte-got, toEnd-got, count-got}
 use Rattle.hns_encoding.proofs.Forms.{byte-alone, wide-bytes, wide-from, wide-below, First, alone, leads, first}
-
--- what a reading that reads at a place says of the value, of where it ends, and of the bytes that `put` writes
-pub record Wrote {A : Type 0} (put : A → List ℕ) (Ok : A → Type 0) (ms : List Mark) (s : List ℕ) (p : ℕ) (v : A) (next : ℕ) : Type 0 where
-  pub fit : Ok v
-  pub same : put v ≡ markAll ms (drop p s)
-  pub size : next ≡ p + length ms
-  pub inside : next ≤ length s
-
--- what `item` reads at a place that is not past the end, `put` writes again, as the marks say
-abbrev pub Forward : {A : Type 0} → (List ℕ → ℕ → Outcome A) → (A → List ℕ) → (A → Type 0) → (List ℕ → ℕ → List Mark) → Type 0
-Forward {A} item put Ok ms = (s : List ℕ) → Bytes s → (p : ℕ) → p ≤ length s → (v : A) (next : ℕ) → item s p ≡ got v next → Wrote put Ok (ms s p) s p v next
 
 -- ---- marks
 
@@ -346,7 +336,7 @@ forward-pair f putA OkA ms forA g putB OkB ns forB s bs p h v next e =
     told (y .3) (both-wrote w (ns s) r (x .0, y .0) refl (w .fit, r .fit) (sym (w .size)))
 
 -- What a format reads it can write, and it writes the bytes that it read, each as its mark says.
-pub forward : (f : Format) → Forward (read f) (write f) (Fit f) (marks f)
+pub forward : WritesAgain
 unfolding read write marks
 forward nothing = λ s bs p h v next e. told e (record { fit = tt; same = refl; size = omega arith; inside = h })
 forward (num n) = forward-num n

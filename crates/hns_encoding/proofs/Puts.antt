@@ -9,8 +9,8 @@ use lib.ListN.{length, take, drop, set, length-append, take-append-drop, drop-of
 use lib.Seq.{sets, sets-eq, length-sets, set-out, take-all, length-take-le, take-length, paste}
 use Rattle.hns_encoding.specs.Bytes.{leBytes, Outcome, got}
 use Rattle.hns_encoding.specs.Put.{splice, advance, Put}
+use Rattle.hns_encoding.specs.Laws.{Reads}
 use Rattle.hns_encoding.proofs.Numbers.{lt-or-ge, leBytes-add, leBytes-mod}
-use Rattle.hns_encoding.proofs.Back.{Reads}
 
 -- ---- a splice is a run of stores
 

@@ -1,9 +1,11 @@
 -- The code's records and answers, of what the definitions give.
 use Prim.Native.Nat.{ℕ}
-use lib.ListN.{replicate}
-use Rattle.hns_encoding.specs.Bytes.{Outcome, got, stop}
-use Rattle.hns_encoding.specs.Format.{Value}
-use Rattle.hns_header_consensus.specs.Layout.{header}
+use mathlib.Core.Path.{_≡_}
+use mathlib.Core.List.{List}
+use lib.ListN.{length, replicate}
+use Rattle.hns_encoding.specs.Bytes.{Bytes, Outcome, got, stop}
+use Rattle.hns_encoding.specs.Format.{Value, write, Fit}
+use Rattle.hns_header_consensus.specs.Layout.{header, decodeHeader}
 use Rattle.hns_header_consensus.specs.declared.Header.{Header}
 use Rattle.hns_header_consensus.specs.declared.Decoded.{Decoded}
 use Rattle.hns_header_consensus.specs.declared.Answer.the-variants as A
@@ -66,3 +68,13 @@ done next h = record { answer = A.Done next; header = h }
 unfoldable pub decodedOf : Outcome (Value header) → Decoded
 decodedOf (got v next) = done next (headerOf v)
 decodedOf (stop r) = record { answer = A.Refused r; header = zeroHeader }
+
+-- ---- both round trips, proofs/RoundTrip.antt
+
+-- `decoded-back`: every header that is encoded decodes as itself
+abbrev pub DecodesBack : Type 0
+DecodesBack = (h : Header) → Fit header (fieldsOf h) → decodedOf (decodeHeader (write header (fieldsOf h))) ≡ done 236 h
+
+-- `encoded-back`: every 236 bytes that are decoded are encoded as themselves
+abbrev pub EncodesBack : Type 0
+EncodesBack = (s : List ℕ) → Bytes s → length s ≡ 236 → write header (fieldsOf (decodedOf (decodeHeader s) .header)) ≡ s

@@ -7,7 +7,6 @@ use native.Mathlib.Omega.{arith}
 use lib.ListN.{length, take}
 use lib.Seq.{length-take-le}
 use lib.Dec.{T}
-use borrow.Author.Tests.{le-leb}
 use Rattle.hns_refusals.specs.declared.Refusal.{Refusal}
 use Rattle.hns_encoding.specs.Bytes.{Bytes, none}
 use Rattle.hns_encoding.specs.Format.{All}
@@ -15,11 +14,12 @@ use Rattle.hns_encoding.specs.Put.{splice}
 use Rattle.hns_p2p_frame.specs.declared.NetworkMagic.{NetworkMagic}
 use Rattle.hns_p2p_frame.specs.Frame.{Frame, WellFormed, encodings, notYet, front}
 use Rattle.hns_p2p_frame.specs.Walk.{Walked, stopped, refused, walk}
-use Rattle.hns_p2p_frame.specs.Push.{settled, push}
+use Rattle.hns_p2p_frame.specs.Push.{Result, settled, push}
 use Rattle.hns_p2p_frame.specs.Stream as stream
 use Rattle.hns_p2p_frame.specs.Stream.{Call, Event, event, events, heldCount, storeAfter, countAfter, heldAfter, forHeader, received, receivedAll, Delivers, DeliversAll, AnyHeaderRefused, TurnedAway, Demand3Holds}
 use Rattle.hns_p2p_frame.proofs.Fronts.{few, front-is, front-few-held, front-none}
 use Rattle.hns_p2p_frame.proofs.Walks.{Ended, walk-ended, encodings-append}
+use Rattle.hns_p2p_frame.proofs.Tests.{Tested, over, large, unstored, no-room, fits, tested}
 use Rattle.hns_p2p_frame.proofs.Pushes.{Good, steps, step-good, step-long, step-bytes, step-some, step-one, step-open, step-shut, step-stays, Shut}
 
 abbrev ByteInputs : List Call → Type 0
@@ -141,10 +141,14 @@ settled-taken net (stopped fs rest) d s h o q = q
 settled-taken net (refused r) d s h o q = not-away r d q
 
 next-push : (net : NetworkMagic) (s : List ℕ) (h : ℕ) (x o : List ℕ) → h + length x ≤ 16000018 → 16000018 ≤ length s → 16000018 ≤ length o → ¬ TurnedAway (push net s h x o .answer)
-unfolding push
-next-push net s h x o a b c =
-    rw (le-leb h (length s) (omega arith), le-leb (h + length x) 16000018 a, le-leb (h + length x) (length s) (omega arith), le-leb (h + length x) (length o) (omega arith))
-    (settled-taken net (walk net (take h s ++ x)) (walk-ended net (take h s ++ x)) (splice s h x) (h + length x) o)
+next-push net s h x o l m n = go (tested net s h x o)
+  where
+    go : {p : Result} → Tested net s h x o p → ¬ TurnedAway (p .answer)
+    go (over a) = absurd (omega arith)
+    go (large a b) = absurd (omega arith)
+    go (unstored a b c) = absurd (omega arith)
+    go (no-room a b c d) = absurd (omega arith)
+    go (fits a b c d) = settled-taken net (walk net (take h s ++ x)) (walk-ended net (take h s ++ x)) (splice s h x) (h + length x) o
 
 pub demand-3 : Demand3Holds
 unfolding heldAfter

@@ -22,6 +22,10 @@ pub choose-holds {κ} : {X : Type 0} (P : X → Type κ) (b : Bool) {x y : X} �
 choose-holds P true f g = f refl
 choose-holds P false f g = g refl
 
+-- where the test is whether a number is at most another
+pub choose-leb {κ} : {X : Type 0} (P : X → Type κ) (a b : ℕ) {x y : X} → (a ≤ b → P x) → (b < a → P y) → P (choose (leb a b) x y)
+choose-leb P a b f g = choose-holds P (leb a b) (λ e. f (leb-true a b e)) (λ e. g (leb-false a b e))
+
 pub bytes-append : {xs ys : List ℕ} → Bytes xs → Bytes ys → Bytes (xs ++ ys)
 bytes-append none g = g
 bytes-append (byte b h) g = byte b (bytes-append h g)
@@ -70,18 +74,16 @@ pub data Seen (net : NetworkMagic) (xs : List ℕ) : Front → Type 0 where
 pub seen : (net : NetworkMagic) (xs : List ℕ) → Seen net xs (front net xs)
 unfolding front
 seen net xs =
-    choose-holds (Seen net xs) (leb 9 (length xs))
-    (λ a. let n = leb-true 9 (length xs) a in
-    choose-holds (Seen net xs) (same (take 4 xs) (magic net))
+    choose-leb (Seen net xs) 9 (length xs)
+    (λ a. choose-holds (Seen net xs) (same (take 4 xs) (magic net))
     (λ b. let m = same-true (take 4 xs) (magic net) b in
-    choose-holds (Seen net xs) (leb (payloadLength xs) 8000000)
-    (λ d. let l = leb-true (payloadLength xs) 8000000 d in
-    choose-holds (Seen net xs) (leb (9 + payloadLength xs) (length xs))
-    (λ e. full n m l (leb-true (9 + payloadLength xs) (length xs) e))
-    (λ e. begun n m l (leb-false (9 + payloadLength xs) (length xs) e)))
-    (λ d. long n m (leb-false (payloadLength xs) 8000000 d)))
-    (λ b. wrong n b))
-    (λ a. few (leb-false 9 (length xs) a))
+    choose-leb (Seen net xs) (payloadLength xs) 8000000
+    (λ c. choose-leb (Seen net xs) (9 + payloadLength xs) (length xs)
+    (λ d. full (omega arith) m (omega arith) (omega arith))
+    (λ d. begun (omega arith) m (omega arith) (omega arith)))
+    (λ c. long (omega arith) m (omega arith)))
+    (λ b. wrong (omega arith) b))
+    (λ a. few (omega arith))
 
 -- the other way: a case's facts say which it is
 pub front-is : {net : NetworkMagic} {xs : List ℕ} {f : Front} → Seen net xs f → front net xs ≡ f

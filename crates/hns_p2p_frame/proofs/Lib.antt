@@ -1,6 +1,7 @@
 pub mod Slices
 pub mod Fronts
 pub mod Walks
+pub mod Tests
 pub mod Answers
 pub mod Turns
 pub mod Pushes

@@ -6,8 +6,7 @@ use mathlib.Core.Bool.{Bool, true, false}
 use native.Mathlib.Omega.{arith}
 use lib.ListN.{length, take, length-append}
 use lib.Seq.{drop-append-seam}
-use lib.Dec.{leb, T}
-use borrow.Author.Tests.{leb-true}
+use lib.Dec.{T}
 use Rattle.hns_refusals.specs.declared.Refusal.{Refusal}
 use Rattle.hns_refusals.specs.Refusals.{streamTooLarge, outputShort, storeShort, heldOver}
 use Rattle.hns_encoding.specs.Bytes.{Bytes}
@@ -21,9 +20,10 @@ use Rattle.hns_p2p_frame.specs.Frame.{Frame, WellFormed, encodings, notY
 use Rattle.hns_p2p_frame.specs.Walk.{Walked, stopped, refused, walk}
 use Rattle.hns_p2p_frame.specs.Push.{Result, needed, settled, push}
 use Rattle.hns_p2p_frame.specs.Stream.{heldCount, forHeader, received, Delivers, HeaderRefused}
-use Rattle.hns_p2p_frame.proofs.Fronts.{choose-holds, bytes-append}
+use Rattle.hns_p2p_frame.proofs.Fronts.{bytes-append}
 use Rattle.hns_p2p_frame.proofs.Slices.{take-spliced, length-held, take-held}
 use Rattle.hns_p2p_frame.proofs.Walks.{WalkCut, walk-cut, Ended, walk-ended, walk-more, encodings-one}
+use Rattle.hns_p2p_frame.proofs.Tests.{Tested, over, large, unstored, no-room, fits, tested}
 
 T-true : (b : Bool) → T b → b ≡ true
 T-true true t = refl
@@ -82,17 +82,15 @@ module _ (net : NetworkMagic) (s : List ℕ) (h : ℕ) (x o : List ℕ) where
       go (refused r) e c d = header r (splice s h x) d e (take-held s h x m) (rw length-splice m) (length-splice s h x)
 
   pub steps : Good s h → Bytes x → Stepped net s h x o (push net s h x o)
-  unfolding push forHeader
-  steps g b =
-      choose-holds (Stepped net s h x o) (leb h (length s))
-      (λ p. choose-holds (Stepped net s h x o) (leb (h + length x) 16000018)
-      (λ q. choose-holds (Stepped net s h x o) (leb (h + length x) (length s))
-      (λ u. choose-holds (Stepped net s h x o) (leb (h + length x) (length o))
-      (λ v. settles g b (leb-true (h + length x) 16000018 q) (leb-true (h + length x) (length s) u) (leb-true (h + length x) (length o) v))
-      (λ v. away (outputShort (needed h x)) refl))
-      (λ u. away (storeShort (needed h x)) refl))
-      (λ q. away (streamTooLarge (needed h x)) refl))
-      (λ p. away (heldOver h) refl)
+  unfolding forHeader
+  steps g b = go (tested net s h x o)
+    where
+      go : {p : Result} → Tested net s h x o p → Stepped net s h x o p
+      go (over a) = away (heldOver h) refl
+      go (large a c) = away (streamTooLarge (needed h x)) refl
+      go (unstored a c d) = away (storeShort (needed h x)) refl
+      go (no-room a c d e) = away (outputShort (needed h x)) refl
+      go (fits a c d e) = settles g b c d e
 
 -- a stream whose held bytes have a bad header
 abbrev pub Shut : NetworkMagic → List ℕ → ℕ → Type 0
@@ -120,7 +118,7 @@ module _ {net : NetworkMagic} {s : List ℕ} {h : ℕ} {x o : List ℕ} where
   unfolding heldCount Delivers received encodings
   step-bytes (away r e) fs d = rw (d, e) (append-nil (take h s))
   step-bytes (header r s′ t w e l k) fs d = rw (d, e, T-true (forHeader r) t)
-  step-bytes (taken gs rest s′ o′ a) fs d = rw (d .1, a .delivered, a .held) (sym (a .cut))
+  step-bytes (taken gs rest s′ o′ a) fs d = rw (a .held) (sym (a .cut) ∙ ap (λ (l : List ℕ). l ++ rest) (sym (d .1 ∙ a .delivered)))
 
   -- what a push delivers: some frames, one list only, and well-formed
   pub step-some : {p : Result} → Stepped net s h x o p → (fs : List Frame) × Delivers net (p .answer) (p .output) fs × All WellFormed fs

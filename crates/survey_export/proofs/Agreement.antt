@@ -6,7 +6,7 @@ use native.Mathlib.Omega.{arith}
 use native.Mathlib.Nat.{le-refl, pow-suc}
 use lib.ListN.{length, take, drop, length-drop, take-append-drop}
 use lib.Seq.{length-take-le}
-use lib.Dec.{leb, ltb, eqb, T, eqb→eq}
+use lib.Dec.{ltb, eqb, T, eqb→eq}
 use borrow.Author.Tests.{ltb-true, eqb-true, eqb-false}
 use Rattle.hns_refusals.specs.declared.Refusal.{Refusal}
 use Rattle.hns_encoding.specs.Bytes.{Bytes, none}
@@ -21,12 +21,13 @@ use Rattle.hns_p2p_frame.specs.Walk.{Walked, stopped, refused, walk}
 use Rattle.hns_p2p_frame.specs.Push.{Result, settled, push}
 use Rattle.hns_p2p_frame.specs.Stream.{heldCount, forHeader}
 use Rattle.hns_p2p_frame.proofs.Fronts.{choose-holds, few, front-is, front-none, front-few-held}
+use Rattle.hns_p2p_frame.proofs.Tests.{Tested, over, large, unstored, no-room, fits, tested}
 use Rattle.hns_p2p_frame.proofs.Walks.{Ended, walk-ended, encodings-append}
 use Rattle.hns_p2p_frame.proofs.Demand3.{all-append}
 use Rattle.hns_p2p_frame.proofs.Pushes.{Good, Stepped, away, header, taken, steps, step-good}
 use Rattle.survey_export.specs.Text.{digit, hex, newline, line, decimalUpTo, decimal, lastLine, heldLine, stopLine}
-use Rattle.survey_export.specs.Survey.{Survey, Last, held, stop, lines, lastText, text, surveyBy, surveyFrom, survey, State, start, pushed, stepped, here, more, StoppedBy, Agrees}
-use Rattle.survey_export.proofs.Determined.{same-lines}
+use Rattle.survey_export.specs.Survey.{Survey, Last, held, stop, lines, delivered, lastText, text, surveyBy, surveyFrom, survey, State, start, pushed, stepped, here, more, StoppedBy, Agrees, LogAndExportAgree, TextDetermines}
+use Rattle.survey_export.proofs.Determined.{same-line}
 use Rattle.survey_export.proofs.Lines.{frames-encodings}
 
 -- ---- log and export
@@ -45,13 +46,19 @@ record Sound (log : List ℕ) (z : State) (v : Survey) : Type 0 where
 held-or-stop : {n r : ℕ} → held n ≡ stop r → ⊥
 held-or-stop e = let z : _≡_ {A = ℕ} 0 1 = cc e in omega arith
 
+held-one : {n m : ℕ} → held n ≡ held m → n ≡ m
+held-one e = cc
+
+stop-one : {n m : ℕ} → stop n ≡ stop m → n ≡ m
+stop-one e = cc
+
 -- the log is over
 ends : (s : List ℕ) (h : ℕ) (log : List ℕ) → length log ≡ 0 → Good s h → front Mainnet (take h s) ≡ notYet → (z : State) → Sound (take h s ++ log) z (record { frames = []; last = held h })
 unfolding encodings
 ends s h [] l g f z =
     let count : length (take h s) ≡ h = length-take-le h s (g .fits) in
     record {
-      agrees = record { held-agrees = λ n e. (take h s, append-nil (take h s), count ∙ cc e, front-none Mainnet (take h s) f); stop-agrees = λ r e. absurd (held-or-stop e) };
+      agrees = record { held-agrees = λ n e. (take h s, append-nil (take h s), count ∙ held-one e, front-none Mainnet (take h s) f); stop-agrees = λ r e. absurd (held-or-stop e) };
       well-formed = tt;
       short = omega (arith, front-few-held Mainnet (take h s) f);
     }
@@ -61,18 +68,18 @@ ends s h (b ∷ log) l g f z = absurd (omega arith)
 led : {z : State} {n b h r : ℕ} {rest : List ℕ} → pushed z .answer ≡ Accepted n b h → StoppedBy (stepped z h) r rest → StoppedBy z r rest
 led p y = record { last = y .last; leads = more p (y .leads); there = y .there; refusal = y .refusal; refused = y .refused; number = y .number }
 
--- frames are delivered, and then the survey goes on
-goes-on : (fs : List Frame) {log rest : List ℕ} {z : State} {v : Survey} {n b h : ℕ} → pushed z .answer ≡ Accepted n b h → log ≡ encodings Mainnet fs ++ rest → All WellFormed fs → Sound rest (stepped z h) v
-    → Sound log z (record { frames = fs ++ v .frames; last = v .last })
-goes-on fs {log} {rest} {z} {v} p e w a =
-    record {
+-- frames are delivered, which are shown as gs, and then the survey goes on
+goes-on : (fs : List Frame) {gs : List Frame} {log rest : List ℕ} {z : State} {v : Survey} {n b h : ℕ} → gs ≡ fs → pushed z .answer ≡ Accepted n b h → log ≡ encodings Mainnet fs ++ rest → All WellFormed fs → Sound rest (stepped z h) v
+    → Sound log z (record { frames = gs ++ v .frames; last = v .last })
+goes-on fs {log = log} {rest} {z} {v} shown p e w a =
+    rw shown (record {
       agrees = record {
         held-agrees = λ n l. let k = a .agrees .held-agrees n l in (k .0, joined (k .0) (k .1), k .2, k .3);
         stop-agrees = λ r l. let k = a .agrees .stop-agrees r l in (k .0, joined (k .0) (k .1), led p (k .2));
       };
       well-formed = all-append fs (v .frames) w (a .well-formed);
       short = a .short;
-    }
+    })
   where
     joined : (end : List ℕ) → rest ≡ encodings Mainnet (v .frames) ++ end → log ≡ encodings Mainnet (fs ++ v .frames) ++ end
     joined end k = e ∙ rw (k, encodings-append, append-assoc)
@@ -92,18 +99,14 @@ settled-numbered (stopped fs rest) d s h o = tt
 settled-numbered (refused r) d s h o = header-numbered r d
 
 push-numbered : (s : List ℕ) (h : ℕ) (x o : List ℕ) → Numbered (push Mainnet s h x o .answer)
-unfolding push
-push-numbered s h x o =
-    let P : Result → Type 0 = λ p. Numbered (p .answer) in
-    choose-holds P (leb h (length s))
-    (λ e. choose-holds P (leb (h + length x) 16000018)
-    (λ e. choose-holds P (leb (h + length x) (length s))
-    (λ e. choose-holds P (leb (h + length x) (length o))
-    (λ e. settled-numbered (walk Mainnet (take h s ++ x)) (walk-ended Mainnet (take h s ++ x)) (splice s h x) (h + length x) o)
-    (λ e. omega arith))
-    (λ e. omega arith))
-    (λ e. omega arith))
-    (λ e. omega arith)
+push-numbered s h x o = go (tested Mainnet s h x o)
+  where
+    go : {p : Result} → Tested Mainnet s h x o p → Numbered (p .answer)
+    go (over a) = omega arith
+    go (large a b) = omega arith
+    go (unstored a b c) = omega arith
+    go (no-room a b c d) = omega arith
+    go (fits a b c d) = settled-numbered (walk Mainnet (take h s ++ x)) (walk-ended Mainnet (take h s ++ x)) (splice s h x) (h + length x) o
 
 -- the push of a chunk is refused
 stops : (s : List ℕ) (h : ℕ) (o log : List ℕ) (r : Refusal) (k : ℕ) → push Mainnet s h (take 4096 log) o .answer ≡ Refused r k → Sound (take h s ++ log) (record { store = s; count = h; output = o; log = log }) (record { frames = []; last = stop (r .number) })
@@ -112,7 +115,7 @@ stops s h o log r k e =
     record {
       agrees = record {
         held-agrees = λ n l. absurd (held-or-stop (sym l));
-        stop-agrees = λ n l. (take h s ++ log, refl, record { last = _; leads = here; there = refl; refusal = r; refused = (k, e); number = cc l });
+        stop-agrees = λ n l. (take h s ++ log, refl, record { last = _; leads = here; there = refl; refusal = r; refused = (k, e); number = stop-one l });
       };
       well-formed = tt;
       short = rw e at (push-numbered s h (take 4096 log) o);
@@ -130,7 +133,8 @@ turn {s} {h} {o} log g b e (taken fs rest s′ o′ a) go next =
     let none-whole : front Mainnet (take (length rest) s′) ≡ notYet = rw (a .held) (a .ended) in
     let bytes : take h s ++ log ≡ encodings Mainnet fs ++ (take (length rest) s′ ++ drop 4096 log) =
     ap (λ (l : List ℕ). take h s ++ l) (sym (take-append-drop 4096 log)) ∙ rw (a .held, ← append-assoc (take h s) (take 4096 log) (drop 4096 log), ← a .cut) (append-assoc (encodings Mainnet fs) rest (drop 4096 log)) in
-    rw (a .delivered, frames-encodings fs (a .well-formed)) (goes-on fs (ap (λ (q : Result). q .answer) e) bytes (a .well-formed) (rw e (next s′ (length rest) o′ good none-whole)))
+    let shown : delivered (length (encodings Mainnet fs)) o′ ≡ fs = rw (a .delivered) (frames-encodings fs (a .well-formed)) in
+    goes-on fs shown (ap (λ (q : Result). q .answer) e) bytes (a .well-formed) (rw e (next s′ (length rest) o′ good none-whole))
 
 -- of a stream between pushes that holds no whole frame: what it holds and what is left of the log
 sound : (n : ℕ) (s : List ℕ) (h : ℕ) (o log : List ℕ) → length log ≤ n → Good s h → front Mainnet (take h s) ≡ notYet → Bytes log → Sound (take h s ++ log) (record { store = s; count = h; output = o; log = log }) (surveyFrom n s h o log)
@@ -140,14 +144,15 @@ sound (suc n) s h o log l g f b =
     choose-holds (Sound (take h s ++ log) (record { store = s; count = h; output = o; log = log })) (eqb (length log) 0)
     (λ e. ends s h log (eqb-true (length log) 0 e) g f _)
     (λ e. let some = eqb-false (length log) 0 e in
-    turn log g b refl (steps Mainnet s h (take 4096 log) o g (bytes-take 4096 b)) _ (λ s′ h′ o′ g′ f′. sound n s′ h′ o′ (drop 4096 log) (simp length-drop (omega arith)) g′ f′ (bytes-drop 4096 b)))
+    turn log g b refl (steps Mainnet s h (take 4096 log) o g (bytes-take 4096 b)) (λ s′ h′ o′. surveyFrom n s′ h′ o′ (drop 4096 log))
+    (λ s′ h′ o′ g′ f′. sound n s′ h′ o′ (drop 4096 log) (simp length-drop (omega arith)) g′ f′ (bytes-drop 4096 b)))
 
 survey-sound : (s o log : List ℕ) → Bytes log → Sound log (start s o log) (survey s o log)
 unfolding survey
 survey-sound s o log b = sound (length log) s 0 o log (le-refl (length log)) (record { fits = zero-le; bytes = none }) (front-is (few (omega arith))) b
 
 -- Log and export agree: of every log, every store and every output of any length.
-pub agreement : (s o log : List ℕ) → Bytes log → Agrees log (start s o log) (survey s o log)
+pub agreement : LogAndExportAgree
 agreement s o log b = survey-sound s o log b .agrees
 
 -- The frames of a survey are frames that the writer accepts.
@@ -172,10 +177,9 @@ same-frames [] [] a b v w e = (refl, e)
 same-frames [] (g ∷ gs) a b v w e = absurd (not-last g gs (lastText b) a (w .0 .kind-byte) (sym e))
 same-frames (f ∷ fs) [] a b v w e = absurd (not-last f fs (lastText a) b (v .0 .kind-byte) e)
 same-frames (f ∷ fs) (g ∷ gs) a b v w e =
-    let first = same-lines (f .kind) (g .kind) (f .payload) (g .payload) (v .0 .kind-byte) (w .0 .kind-byte) (v .0 .payload-bytes) (w .0 .payload-bytes) (omega (arith, v .0 .within)) (omega (arith, w .0 .within)) (simp append-assoc at e) in
-    let rest = same-frames fs gs a b (v .1) (w .1) (first .2) in
-    let frame : f ≡ g = ap₂ (λ (k : ℕ) (p : List ℕ). record { kind = k; payload = p }) (first .0) (first .1) in
-    (cc (frame, rest .0), rest .1)
+    let first = same-line f g (lines fs ++ lastText a) (lines gs ++ lastText b) (v .0) (w .0) (simp append-assoc at e) in
+    let rest = same-frames fs gs a b (v .1) (w .1) (first .1) in
+    (cc (first .0, rest .0), rest .1)
 
 -- decimal digits read back, after those that say n
 value : ℕ → List ℕ → ℕ
@@ -217,7 +221,7 @@ unfolding text
 same-text v w a b e = same-frames (v .frames) (w .frames) (v .last) (w .last) a b e
 
 -- Two logs whose surveys have one text have one survey: the same frames, and the same last line with its number.
-pub same-survey : (s o log s′ o′ log′ : List ℕ) → Bytes log → Bytes log′ → text (survey s o log) ≡ text (survey s′ o′ log′) → survey s o log ≡ survey s′ o′ log′
+pub same-survey : TextDetermines
 same-survey s o log s′ o′ log′ b b′ e =
     let v = survey s o log in
     let w = survey s′ o′ log′ in

@@ -1,34 +1,36 @@
 -- An exported line determines its frame: the digits read back, so lines that begin the same text are the same line of the same type and payload. Assumes nothing.
 use Prim.Native.Nat.{ℕ, _+_, _-_, _*_, _/_, _%_, _^_, _≤_, _<_, min}
-use mathlib.Core.Path.{_≡_, refl, sym, ap, _∙_}
+use mathlib.Core.Path.{_≡_, refl, sym, ap, ap₂, _∙_}
 use mathlib.Core.List.{List, [], _∷_, _++_, append-assoc, reverse, reverse-reverse}
-use mathlib.Core.Logic.{⊎-elim}
 use native.Mathlib.Omega.{arith}
 use lib.Dec.{ltb}
 use lib.ListN.{length}
-use borrow.Author.Tests.{le-ltb, lt-ltb}
+use borrow.Author.Tests.{ltb-true, ltb-false, le-ltb, lt-ltb}
 use Rattle.hns_encoding.specs.Bytes.{le, leBytes, Bytes, none, byte, choose}
-use Rattle.hns_encoding.proofs.Numbers.{lt-or-ge, le-leBytes}
+use Rattle.hns_encoding.proofs.Numbers.{le-leBytes}
+use Rattle.hns_p2p_frame.proofs.Fronts.{choose-holds}
 use Rattle.survey_export.specs.Text.{digit, hex, space, newline, hexPayload, line}
+use Rattle.survey_export.specs.Survey.{LineDetermines}
 
 -- ---- digits read back
 
 undigit : ℕ → ℕ
 undigit c = choose (ltb c 58) (c - 48) (c - 87)
 
-undigit-digit : (d : ℕ) → d < 16 → undigit (digit d) ≡ d
-unfolding undigit digit
-undigit-digit d h = ⊎-elim low high (lt-or-ge d 10)
-  where
-    low : d < 10 → undigit (digit d) ≡ d
-    low k =
-        let small : 48 + d < 58 = omega arith in
-        simp (lt-ltb _ _ k, lt-ltb _ _ small) (omega arith)
+undigit-low : (c : ℕ) → c < 58 → undigit c ≡ c - 48
+unfolding undigit
+undigit-low c h = simp (lt-ltb _ _ h)
 
-    high : 10 ≤ d → undigit (digit d) ≡ d
-    high k =
-        let large : 58 ≤ 87 + d = omega arith in
-        simp (le-ltb _ _ k, le-ltb _ _ large) (omega arith)
+undigit-high : (c : ℕ) → 58 ≤ c → undigit c ≡ c - 87
+unfolding undigit
+undigit-high c h = simp (le-ltb _ _ h)
+
+undigit-digit : (d : ℕ) → d < 16 → undigit (digit d) ≡ d
+unfolding digit
+undigit-digit d h =
+    choose-holds (λ (c : ℕ). undigit c ≡ d) (ltb d 10)
+    (λ e. let k = ltb-true d 10 e in undigit-low (48 + d) (omega arith) ∙ omega arith)
+    (λ e. let k = ltb-false d 10 e in undigit-high (87 + d) (omega arith) ∙ omega arith)
 
 unhex : List ℕ → List ℕ
 unhex [] = []
@@ -103,18 +105,21 @@ line-parts : (k : ℕ) (p x : List ℕ) → line k p ++ x ≡ hex (k ∷ []) ++ 
 unfolding line four
 line-parts k p x = simp append-assoc
 
--- Lines that begin equal texts are of one type and one payload, and what follows them is equal.
-pub same-lines : (k k′ : ℕ) (p p′ : List ℕ) {x x′ : List ℕ} → k < 256 → k′ < 256 → Bytes p → Bytes p′ → length p < 2 ^ 32 → length p′ < 2 ^ 32
-    → line k p ++ x ≡ line k′ p′ ++ x′ → (k ≡ k′) × (p ≡ p′) × (x ≡ x′)
-same-lines k k′ p p′ {x} {x′} bk bk′ bp bp′ h h′ e =
-    let parts = sym (line-parts k p x) ∙ (e ∙ line-parts k′ p′ x′) in
-    let one = same-front (hex (k ∷ [])) (hex (k′ ∷ [])) (hex-length (k ∷ []) ∙ sym (hex-length (k′ ∷ []))) parts in
-    let kinds : k ∷ [] ≡ k′ ∷ [] = hex-same (byte bk none) (byte bk′ none) (one .0) in
-    let after-space : hex (four (length p)) ++ (hexPayload p ++ (newline ∷ x)) ≡ hex (four (length p′)) ++ (hexPayload p′ ++ (newline ∷ x′)) = cc (one .1) in
-    let two = same-front (hex (four (length p))) (hex (four (length p′))) (lengths (length p) (length p′)) after-space in
-    let long : length p ≡ length p′ = four-same (length p) (length p′) h h′ (hex-same (four-bytes (length p)) (four-bytes (length p′)) (two .0)) in
-    let three = same-front (hexPayload p) (hexPayload p′) (omega (arith, payload-length p, payload-length p′)) (two .1) in
-    (cc kinds, payload-same bp bp′ long (three .0), cc (three .1))
+-- Lines that begin equal texts are of one frame, and what follows them is equal.
+pub same-line : LineDetermines
+same-line f g x y v w e =
+    let p = f .payload in
+    let q = g .payload in
+    let parts = sym (line-parts (f .kind) p x) ∙ (e ∙ line-parts (g .kind) q y) in
+    let one = same-front (hex (f .kind ∷ [])) (hex (g .kind ∷ [])) (hex-length (f .kind ∷ []) ∙ sym (hex-length (g .kind ∷ []))) parts in
+    let kinds : f .kind ∷ [] ≡ g .kind ∷ [] = hex-same (byte (v .kind-byte) none) (byte (w .kind-byte) none) (one .0) in
+    let kind : f .kind ≡ g .kind = cc kinds in
+    let after-space : hex (four (length p)) ++ (hexPayload p ++ (newline ∷ x)) ≡ hex (four (length q)) ++ (hexPayload q ++ (newline ∷ y)) = cc (one .1) in
+    let two = same-front (hex (four (length p))) (hex (four (length q))) (lengths (length p) (length q)) after-space in
+    let long : length p ≡ length q = four-same (length p) (length q) (omega (arith, v .within)) (omega (arith, w .within)) (hex-same (four-bytes (length p)) (four-bytes (length q)) (two .0)) in
+    let three = same-front (hexPayload p) (hexPayload q) (omega (arith, payload-length p, payload-length q)) (two .1) in
+    let payload : p ≡ q = payload-same (v .payload-bytes) (w .payload-bytes) long (three .0) in
+    (ap₂ (λ (k : ℕ) (b : List ℕ). record { kind = k; payload = b }) kind payload, cc (three .1))
   where
     lengths : (n m : ℕ) → length (hex (four n)) ≡ length (hex (four m))
     lengths n m = hex-length (four n) ∙ (ap (λ (k : ℕ). 2 * k) (four-long n ∙ sym (four-long m)) ∙ sym (hex-length (four m)))

@@ -9,7 +9,7 @@ use Rattle.hns_p2p_frame.specs.Frame.{magic, encode, encodings, same, payloadLe
 use Rattle.hns_p2p_frame.specs.Walk.{also, onward, walkUpTo, walk}
 use Rattle.hns_p2p_frame.specs.Push.{settled, push}
 use Rattle.survey_export.specs.Text.{digit, hex, hexPayload, line, decimalUpTo, decimal, lastLine, heldLine}
-use Rattle.survey_export.specs.Survey.{lines, delivered, framesOf, framesUpTo, framesBy, lastText, text, surveyBy, surveyFrom, survey}
+use Rattle.survey_export.specs.Survey.{lines, framesOf, framesUpTo, framesBy, lastText, text, surveyBy, surveyFrom, survey}
 
 -- a frame of type 1 with no payload, one of type 2 with eight bytes, and two bytes more
 abbrev log : List ℕ
@@ -24,5 +24,5 @@ abbrev whole : List ℕ
 whole = 48 ∷ 49 ∷ 32 ∷ 48 ∷ 48 ∷ 48 ∷ 48 ∷ 48 ∷ 48 ∷ 48 ∷ 48 ∷ 10 ∷ 48 ∷ 50 ∷ 32 ∷ 48 ∷ 48 ∷ 48 ∷ 48 ∷ 48 ∷ 48 ∷ 48 ∷ 56 ∷ 32 ∷ 48 ∷ 49 ∷ 48 ∷ 50 ∷ 48 ∷ 51 ∷ 48 ∷ 52 ∷ 48 ∷ 53 ∷ 48 ∷ 54 ∷ 48 ∷ 55 ∷ 48 ∷ 56 ∷ 10 ∷ 104 ∷ 101 ∷ 108 ∷ 100 ∷ 32 ∷ 50 ∷ 10 ∷ []
 
 pub example : text (survey room room log) ≡ whole
-unfolding le leBytes splice magic encode encodings same payloadLength front also onward walkUpTo walk settled push digit hex hexPayload line decimalUpTo decimal lastLine heldLine lines delivered framesOf framesUpTo framesBy lastText text surveyBy surveyFrom survey
+unfolding le leBytes splice magic encode encodings same payloadLength front also onward walkUpTo walk settled push digit hex hexPayload line decimalUpTo decimal lastLine heldLine lines framesOf framesUpTo framesBy lastText text surveyBy surveyFrom survey
 example = refl

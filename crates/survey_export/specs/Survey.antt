@@ -5,12 +5,12 @@ use mathlib.Core.List.{List, [], _∷_, _++_}
 use lib.ListN.{length, take, drop}
 use lib.Dec.{eqb}
 use Rattle.hns_refusals.specs.declared.Refusal.{Refusal}
-use Rattle.hns_encoding.specs.Bytes.{choose}
+use Rattle.hns_encoding.specs.Bytes.{Bytes, choose}
 use Rattle.hns_encoding.specs.Put.{splice, advance}
 use Rattle.hns_p2p_frame.specs.declared.NetworkMagic.the-variants.{Mainnet}
 use Rattle.hns_p2p_frame.specs.declared.Pushed.{Pushed}
 use Rattle.hns_p2p_frame.specs.declared.Pushed.the-variants.{Accepted, Refused}
-use Rattle.hns_p2p_frame.specs.Frame.{Frame, encodings, Front, notYet, whole, bad, front}
+use Rattle.hns_p2p_frame.specs.Frame.{Frame, WellFormed, encodings, Front, notYet, whole, bad, front}
 use Rattle.hns_p2p_frame.specs.Push.{Result, push}
 use Rattle.hns_p2p_frame.specs.Stream.{BeginsWithFrame}
 use Rattle.survey_export.specs.declared.Step.{Step}
@@ -142,3 +142,19 @@ pub record Agrees (log : List ℕ) (z : State) (v : Survey) : Type 0 where
   -- where it ends in `stop R`, the frames on its lines are a front of the log, and R is the refusal of the push that stopped it
   pub stop-agrees : (r : ℕ) → v .last ≡ stop r
       → (rest : List ℕ) × (log ≡ encodings Mainnet (v .frames) ++ rest) × StoppedBy z r rest
+
+-- ---- the theorems
+
+-- `agreement` of proofs/Agreement.antt: of every log of bytes, every store and every output, of any length
+abbrev pub LogAndExportAgree : Type 0
+LogAndExportAgree = (s o log : List ℕ) → Bytes log → Agrees log (start s o log) (survey s o log)
+
+-- `same-line` of proofs/Determined.antt: an exported line determines its frame, and where it ends
+abbrev pub LineDetermines : Type 0
+LineDetermines =
+    (f g : Frame) (x y : List ℕ) → WellFormed f → WellFormed g → line (f .kind) (f .payload) ++ x ≡ line (g .kind) (g .payload) ++ y → (f ≡ g) × (x ≡ y)
+
+-- `same-survey` of proofs/Agreement.antt: surveys of one text are one survey, the same frames and the same last line with its number
+abbrev pub TextDetermines : Type 0
+TextDetermines =
+    (s o log s′ o′ log′ : List ℕ) → Bytes log → Bytes log′ → text (survey s o log) ≡ text (survey s′ o′ log′) → survey s o log ≡ survey s′ o′ log′

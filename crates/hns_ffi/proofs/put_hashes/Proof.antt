@@ -1,3 +1,5 @@
+use mathlib.Core.Path.{ap, _∙_}
+use Rattle.hns_encoding.specs.Put.{splice}
 use Rattle.hns_encoding.proofs.Puts.{then, from-start}
 use Rattle.hns_ffi.proofs.Hashes.{two-runs}
 use borrow.Author.Needs.{needs}
@@ -40,7 +42,7 @@ returns c =
     let first = second .before .before .before .before .before in
     let a = c .before .before .before .before .before .before .before .before .before .before .before .before .before .args in
     let both = then (c .before .before .before .before .before .before .before .before .before .before .before .before .before .good .1 .0 .0) (from-start (first .before .before .before .new .ensures) (first .put-bytes .ensures)) (second .put-bytes2 .ensures) in
-    rw (two-runs (a .block .now)) at (both .bytes)
+    both .bytes ∙ ap (splice (a .out .now) 0) (two-runs (a .block .now))
 
 pub put-hashes-spec : {M : Type 1} → statement M
 put-hashes-spec =

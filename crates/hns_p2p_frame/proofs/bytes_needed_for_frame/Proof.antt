@@ -14,11 +14,11 @@ use Rattle.hns_p2p_frame.proofs.bytes_needed_for_frame.Tie as tie
 
 few-missing : (xs : List ℕ) → length xs < 9 → 9 - length xs ≡ missing xs
 unfolding missing
-few-missing xs h = rw (lt-leb _ _ h)
+few-missing xs h = rw (lt-leb _ _ h) (omega arith)
 
 rest-missing : (xs : List ℕ) → 9 ≤ length xs → {v : ℕ} → v ≡ numberAt 4 xs 5 → 9 + v - length xs ≡ missing xs
 unfolding missing payloadLength
-rest-missing xs h e = rw (le-leb _ _ h, e, number-there 4 xs 5 (omega arith))
+rest-missing xs h e = rw (le-leb _ _ h) (omega (arith, e ∙ number-there 4 xs 5 (omega arith)))
 
 sub-result : tie.Need-sub-result
 sub-result c = search needs

@@ -1,10 +1,9 @@
 -- `encode` meets its contract: the four puts are one put of the encoding, which fits.
 use Prim.Native.Nat.{ℕ, _+_, _^_, _≤_, _<_}
-use mathlib.Core.Path.{_≡_, refl}
+use mathlib.Core.Path.{_≡_, refl, ap}
 use mathlib.Core.List.{List, _∷_, _++_}
 use native.Mathlib.Omega.{arith}
 use lib.ListN.{length}
-use borrow.Author.Tests.{le-leb, lt-leb}
 use Rattle.hns_refusals.specs.declared.Refusal.{Refusal}
 use Rattle.hns_refusals.specs.Refusals.{payloadTooLarge, outputShort}
 use Rattle.hns_encoding.specs.Bytes.{leBytes}
@@ -13,30 +12,59 @@ use Rattle.hns_encoding.proofs.Puts.{from-start, _⨟_}
 use Rattle.hns_p2p_frame.specs.declared.NetworkMagic.{NetworkMagic}
 use Rattle.hns_p2p_frame.specs.declared.Encoded.{Encoded}
 use Rattle.hns_p2p_frame.specs.declared.Encoded.the-variants as E
-use Rattle.hns_p2p_frame.specs.Frame.{magic, Frame, encode, writeFrame}
+use Rattle.hns_p2p_frame.specs.Frame.{magic, Frame, encode, Written, writeFrame}
+use Rattle.hns_p2p_frame.proofs.Fronts.{choose-leb}
 use Rattle.hns_p2p_frame.proofs.Walks.{length-encode}
 use borrow.Author.Needs.{needs}
 use Rattle.hns_p2p_frame.proofs.encode.Statement.{statement}
 use Rattle.hns_p2p_frame.proofs.encode.Tie as tie
 
 module _ (net : NetworkMagic) (f : Frame) (o : List ℕ) where
-  -- what the function ensures
-  abbrev Met : Encoded → List ℕ → Type 0
-  Met r o′ = (r ≡ writeFrame net f o .answer) × (o′ ≡ writeFrame net f o .output)
+  -- what the writer gives, by its tests
+  data Tested : Written → Type 0 where
+    large : 8000000 < length (f .payload) → Tested (record { answer = E.Refused (payloadTooLarge (length (f .payload))); output = o })
+    no-room : length (f .payload) ≤ 8000000 → length o < 9 + length (f .payload) → Tested (record { answer = E.Refused (outputShort (length (encode net f))); output = o })
+    fits : length (f .payload) ≤ 8000000 → 9 + length (f .payload) ≤ length o → Tested (record { answer = E.Written (length (encode net f)); output = splice o 0 (encode net f) })
 
-  long : 8000000 < length (f .payload) → {r : Refusal} → r ≡ payloadTooLarge (length (f .payload)) → Met (E.Refused r) o
+  tested : Tested (writeFrame net f o)
   unfolding writeFrame
-  long h e = rw (lt-leb (length (f .payload)) 8000000 h, e) (refl, refl)
+  tested =
+      choose-leb Tested (length (f .payload)) 8000000
+      (λ a. choose-leb Tested (length (encode net f)) (length o)
+      (λ b. fits (omega arith) (omega (arith, length-encode net f)))
+      (λ b. no-room (omega arith) (omega (arith, length-encode net f))))
+      (λ a. large (omega arith))
+
+  -- what the function ensures
+  abbrev Met : Written → Encoded → List ℕ → Type 0
+  Met w r o′ = (r ≡ w .answer) × (o′ ≡ w .output)
+
+  long : 8000000 < length (f .payload) → {r : Refusal} → r ≡ payloadTooLarge (length (f .payload)) → Met (writeFrame net f o) (E.Refused r) o
+  long h {r} e = go tested
+    where
+      go : {w : Written} → Tested w → Met w (E.Refused r) o
+      go (large a) = (ap E.Refused e, refl)
+      go (no-room a b) = absurd (omega arith)
+      go (fits a b) = absurd (omega arith)
 
   module _ (h : length (f .payload) ≤ 8000000) where
-    short : length o < 9 + length (f .payload) → {r : Refusal} → r ≡ outputShort (9 + length (f .payload)) → Met (E.Refused r) o
-    unfolding writeFrame
-    short k e = rw (length-encode net f, le-leb (length (f .payload)) 8000000 h, lt-leb (9 + length (f .payload)) (length o) k, e) (refl, refl)
+    short : length o < 9 + length (f .payload) → {r : Refusal} → r ≡ outputShort (9 + length (f .payload)) → Met (writeFrame net f o) (E.Refused r) o
+    short k {r} e = go tested
+      where
+        go : {w : Written} → Tested w → Met w (E.Refused r) o
+        go (large a) = absurd (omega arith)
+        go (no-room a b) = rw (length-encode net f, e) (refl, refl)
+        go (fits a b) = absurd (omega arith)
 
     -- m is the magic
-    writes : 9 + length (f .payload) ≤ length o → {m o′ : List ℕ} → m ≡ magic net → o′ ≡ splice o 0 (m ++ (f .kind ∷ (leBytes 4 (length (f .payload)) ++ f .payload))) → Met (E.Written (9 + length (f .payload))) o′
-    unfolding writeFrame encode
-    writes k e q = rw (length-encode net f, le-leb (length (f .payload)) 8000000 h, le-leb (9 + length (f .payload)) (length o) k) (refl, rw e at q)
+    writes : 9 + length (f .payload) ≤ length o → {m o′ : List ℕ} → m ≡ magic net → o′ ≡ splice o 0 (m ++ (f .kind ∷ (leBytes 4 (length (f .payload)) ++ f .payload))) → Met (writeFrame net f o) (E.Written (9 + length (f .payload))) o′
+    unfolding encode
+    writes k {m} {o′} e q = go tested
+      where
+        go : {w : Written} → Tested w → Met w (E.Written (9 + length (f .payload))) o′
+        go (large a) = absurd (omega arith)
+        go (no-room a b) = absurd (omega arith)
+        go (fits a b) = rw (length-encode net f) (refl, rw e at q)
 
 payload-too-large-requires : tie.Need-payload-too-large-requires
 payload-too-large-requires c κs = search needs
