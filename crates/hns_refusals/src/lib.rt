@@ -36,13 +36,13 @@ impl Refusal {
     pub const HELD_OVER: u64 = 18;
 
     // The bytes end in a field that begins at `offset`.
-    pub fn unexpected_end(offset: usize, needed: usize) -> Refusal
-        ensures { λ r. ⌜ r ≡ unexpectedEnd offset needed ⌝ }
+    pub fn unexpected_end(offset: usize, missing: usize) -> Refusal
+        ensures { λ r. ⌜ r ≡ unexpectedEnd offset missing ⌝ }
     {
         Refusal {
             number: Refusal::UNEXPECTED_END,
             a: offset as u64,
-            b: needed as u64,
+            b: missing as u64,
             c: 0,
         }
     }

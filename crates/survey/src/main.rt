@@ -1,7 +1,8 @@
 // Reads a mainnet peer log on standard input and writes its exported survey to standard output.
 //
 // What matters is in survey_export; here are the reads, the writes and what is said where one fails. A survey without
-// its last line does not count, so none is written after a failed read or write.
+// its last line does not count, so nothing is put after a failed read but the lines so far, and nothing after a failed
+// write.
 use hns_encoder::Encoder;
 use libc::STDIN_FILENO;
 use libc::STDOUT_FILENO;
@@ -76,6 +77,14 @@ fn finish(text: &mut [u8], held: usize, position: usize) -> After {
     After::End
 }
 
+// A chunk that is not full is the last: the log is not read beyond its end, also where it has grown since.
+fn over(after: After, text: &mut [u8]) -> After {
+    match after {
+        After::End => After::End,
+        After::Next { held, position } => finish(text, held, position),
+    }
+}
+
 fn take_bytes(
     store: &mut [u8],
     chunk: &[u8],
@@ -120,14 +129,12 @@ fn turn(
             if n == 0 {
                 return finish(text, held, position);
             }
-            take_bytes(
-                store,
-                survey_export::first(chunk, n),
-                output,
-                text,
-                held,
-                position,
-            )
+            let bytes = survey_export::first(chunk, n);
+            let after = take_bytes(store, bytes, output, text, held, position);
+            if n < chunk.len() {
+                return over(after, text);
+            }
+            after
         }
     }
 }

@@ -40,7 +40,6 @@ Short (stop r) = r < 10 ^ 20
 -- what is shown of a survey
 record Sound (log : List ℕ) (z : State) (v : Survey) : Type 0 where
   agrees : Agrees log z v
-  well-formed : All WellFormed (v .frames)
   short : Short (v .last)
 
 held-or-stop : {n r : ℕ} → held n ≡ stop r → ⊥
@@ -58,26 +57,25 @@ unfolding encodings
 ends s h [] l g f z =
     let count : length (take h s) ≡ h = length-take-le h s (g .fits) in
     record {
-      agrees = record { held-agrees = λ n e. (take h s, append-nil (take h s), count ∙ held-one e, front-none Mainnet (take h s) f); stop-agrees = λ r e. absurd (held-or-stop e) };
-      well-formed = tt;
+      agrees = record { held-agrees = λ n e. (take h s, append-nil (take h s), count ∙ held-one e, front-none Mainnet (take h s) f); stop-agrees = λ r e. absurd (held-or-stop e); well-formed = tt };
       short = omega (arith, front-few-held Mainnet (take h s) f);
     }
 ends s h (b ∷ log) l g f z = absurd (omega arith)
 
 -- the push that stopped a survey stopped the survey that led to its start
-led : {z : State} {n b h r : ℕ} {rest : List ℕ} → pushed z .answer ≡ Accepted n b h → StoppedBy (stepped z h) r rest → StoppedBy z r rest
-led p y = record { last = y .last; leads = more p (y .leads); there = y .there; refusal = y .refusal; refused = y .refused; number = y .number }
+led : {z : State} {n b h r : ℕ} {rest : List ℕ} → 0 < length (z .log) → pushed z .answer ≡ Accepted n b h → StoppedBy (stepped z h) r rest → StoppedBy z r rest
+led some p y = record { last = y .last; leads = more some p (y .leads); there = y .there; refusal = y .refusal; refused = y .refused; number = y .number }
 
 -- frames are delivered, which are shown as gs, and then the survey goes on
-goes-on : (fs : List Frame) {gs : List Frame} {log rest : List ℕ} {z : State} {v : Survey} {n b h : ℕ} → gs ≡ fs → pushed z .answer ≡ Accepted n b h → log ≡ encodings Mainnet fs ++ rest → All WellFormed fs → Sound rest (stepped z h) v
+goes-on : (fs : List Frame) {gs : List Frame} {log rest : List ℕ} {z : State} {v : Survey} {n b h : ℕ} → gs ≡ fs → 0 < length (z .log) → pushed z .answer ≡ Accepted n b h → log ≡ encodings Mainnet fs ++ rest → All WellFormed fs → Sound rest (stepped z h) v
     → Sound log z (record { frames = gs ++ v .frames; last = v .last })
-goes-on fs {log = log} {rest} {z} {v} shown p e w a =
+goes-on fs {log = log} {rest} {z} {v} shown some p e w a =
     rw shown (record {
       agrees = record {
         held-agrees = λ n l. let k = a .agrees .held-agrees n l in (k .0, joined (k .0) (k .1), k .2, k .3);
-        stop-agrees = λ r l. let k = a .agrees .stop-agrees r l in (k .0, joined (k .0) (k .1), led p (k .2));
+        stop-agrees = λ r l. let k = a .agrees .stop-agrees r l in (k .0, joined (k .0) (k .1), led some p (k .2));
+        well-formed = all-append fs (v .frames) w (a .agrees .well-formed);
       };
-      well-formed = all-append fs (v .frames) w (a .well-formed);
       short = a .short;
     })
   where
@@ -116,25 +114,25 @@ stops s h o log r k e =
       agrees = record {
         held-agrees = λ n l. absurd (held-or-stop (sym l));
         stop-agrees = λ n l. (take h s ++ log, refl, record { last = _; leads = here; there = refl; refusal = r; refused = (k, e); number = stop-one l });
+        well-formed = tt;
       };
-      well-formed = tt;
       short = rw e at (push-numbered s h (take 4096 log) o);
     }
 
 -- a turn: the push p of a chunk, and what the survey goes on with
-turn : {s : List ℕ} {h : ℕ} {o : List ℕ} (log : List ℕ) {p : Result} → Good s h → Bytes log → push Mainnet s h (take 4096 log) o ≡ p → Stepped Mainnet s h (take 4096 log) o p
+turn : {s : List ℕ} {h : ℕ} {o : List ℕ} (log : List ℕ) {p : Result} → Good s h → Bytes log → 0 < length log → push Mainnet s h (take 4096 log) o ≡ p → Stepped Mainnet s h (take 4096 log) o p
     → (go : List ℕ → ℕ → List ℕ → Survey) → ((s′ : List ℕ) (h′ : ℕ) (o′ : List ℕ) → Good s′ h′ → front Mainnet (take h′ s′) ≡ notYet → Sound (take h′ s′ ++ drop 4096 log) (record { store = s′; count = h′; output = o′; log = drop 4096 log }) (go s′ h′ o′))
     → Sound (take h s ++ log) (record { store = s; count = h; output = o; log = log }) (surveyBy (p .answer) p go)
 unfolding surveyBy heldCount
-turn {s} {h} {o} log g b e (away r c) go next = stops s h o log r h (ap (λ (q : Result). q .answer) e)
-turn {s} {h} {o} log g b e (header r s′ c w t l k) go next = stops s h o log r (h + length (take 4096 log)) (ap (λ (q : Result). q .answer) e)
-turn {s} {h} {o} log g b e (taken fs rest s′ o′ a) go next =
+turn {s} {h} {o} log g b some e (away r c) go next = stops s h o log r h (ap (λ (q : Result). q .answer) e)
+turn {s} {h} {o} log g b some e (header r s′ c w t l k) go next = stops s h o log r (h + length (take 4096 log)) (ap (λ (q : Result). q .answer) e)
+turn {s} {h} {o} log g b some e (taken fs rest s′ o′ a) go next =
     let good = step-good {o = o} (taken fs rest s′ o′ a) g (bytes-take 4096 b) in
     let none-whole : front Mainnet (take (length rest) s′) ≡ notYet = rw (a .held) (a .ended) in
     let bytes : take h s ++ log ≡ encodings Mainnet fs ++ (take (length rest) s′ ++ drop 4096 log) =
     ap (λ (l : List ℕ). take h s ++ l) (sym (take-append-drop 4096 log)) ∙ rw (a .held, ← append-assoc (take h s) (take 4096 log) (drop 4096 log), ← a .cut) (append-assoc (encodings Mainnet fs) rest (drop 4096 log)) in
     let shown : delivered (length (encodings Mainnet fs)) o′ ≡ fs = rw (a .delivered) (frames-encodings fs (a .well-formed)) in
-    goes-on fs shown (ap (λ (q : Result). q .answer) e) bytes (a .well-formed) (rw e (next s′ (length rest) o′ good none-whole))
+    goes-on fs shown some (ap (λ (q : Result). q .answer) e) bytes (a .well-formed) (rw e (next s′ (length rest) o′ good none-whole))
 
 -- of a stream between pushes that holds no whole frame: what it holds and what is left of the log
 sound : (n : ℕ) (s : List ℕ) (h : ℕ) (o log : List ℕ) → length log ≤ n → Good s h → front Mainnet (take h s) ≡ notYet → Bytes log → Sound (take h s ++ log) (record { store = s; count = h; output = o; log = log }) (surveyFrom n s h o log)
@@ -143,8 +141,9 @@ sound zero s h o log l g f b = ends s h log (omega arith) g f _
 sound (suc n) s h o log l g f b =
     choose-holds (Sound (take h s ++ log) (record { store = s; count = h; output = o; log = log })) (eqb (length log) 0)
     (λ e. ends s h log (eqb-true (length log) 0 e) g f _)
-    (λ e. let some = eqb-false (length log) 0 e in
-    turn log g b refl (steps Mainnet s h (take 4096 log) o g (bytes-take 4096 b)) (λ s′ h′ o′. surveyFrom n s′ h′ o′ (drop 4096 log))
+    (λ e. let none = eqb-false (length log) 0 e in
+    let some : 0 < length log = omega arith in
+    turn log g b some refl (steps Mainnet s h (take 4096 log) o g (bytes-take 4096 b)) (λ s′ h′ o′. surveyFrom n s′ h′ o′ (drop 4096 log))
     (λ s′ h′ o′ g′ f′. sound n s′ h′ o′ (drop 4096 log) (simp length-drop (omega arith)) g′ f′ (bytes-drop 4096 b)))
 
 survey-sound : (s o log : List ℕ) → Bytes log → Sound log (start s o log) (survey s o log)
@@ -154,10 +153,6 @@ survey-sound s o log b = sound (length log) s 0 o log (le-refl (length log)) (re
 -- Log and export agree: of every log, every store and every output of any length.
 pub agreement : LogAndExportAgree
 agreement s o log b = survey-sound s o log b .agrees
-
--- The frames of a survey are frames that the writer accepts.
-pub surveyed-well-formed : (s o log : List ℕ) → Bytes log → All WellFormed (survey s o log .frames)
-surveyed-well-formed s o log b = survey-sound s o log b .well-formed
 
 -- ---- the text determines the survey
 
@@ -227,5 +222,5 @@ same-survey s o log s′ o′ log′ b b′ e =
     let w = survey s′ o′ log′ in
     let k = survey-sound s o log b in
     let l = survey-sound s′ o′ log′ b′ in
-    let parts = same-text v w (k .well-formed) (l .well-formed) e in
+    let parts = same-text v w (k .agrees .well-formed) (l .agrees .well-formed) e in
     ap₂ (λ (fs : List Frame) (a : Last). record { frames = fs; last = a }) (parts .0) (same-last (v .last) (w .last) (k .short) (l .short) (parts .1))

@@ -36,6 +36,11 @@ counted (suc n) i (suc k) h f = counted n (suc i) k (omega arith) f ∙ ap f (om
 pub table-digit : (d : ℕ) → d < 16 → getD table d 0 ≡ digit d
 table-digit d h = ap (λ (t : List ℕ). getD t d 0) table-is ∙ (counted 16 0 d h digit ∙ ap digit (omega arith))
 
+-- the first ten are those of decimal numbers
+pub table-low : (d : ℕ) → d < 10 → getD table d 0 ≡ 48 + d
+unfolding digit
+table-low d h = table-digit d (omega arith) ∙ simp (lt-ltb _ _ h)
+
 -- ---- a turn of the loop over bytes
 
 hex-append : (x y : List ℕ) → hex (x ++ y) ≡ hex x ++ hex y

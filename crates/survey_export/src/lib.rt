@@ -65,15 +65,18 @@ pub fn put_line(encoder: Encoder, out: &mut [u8], kind: u8, payload: &[u8]) -> E
 fn put_decimal(encoder: Encoder, out: &mut [u8], n: u64) -> Encoder
     ensures { λ r. ⌜ Put (now (out .entry)) (encoder .position) (decimal n) (now (out .exit)) (r .position) ⌝ }
 {
+    let digits = DIGITS;
     let mut text = [0u8; 20];
     let mut rest = n;
     let mut i: usize = 19;
     while 10 <= rest {
-        text[i] = (48 + rest % 10) as u8;
+        let low = (rest % 10) as usize;
+        text[i] = digits[low];
         rest /= 10;
         i -= 1;
     }
-    text[i] = (48 + rest) as u8;
+    let first = rest as usize;
+    text[i] = digits[first];
     encoder.put_bytes(out, &text[i..])
 }
 

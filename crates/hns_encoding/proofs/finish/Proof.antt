@@ -1,3 +1,5 @@
+use mathlib.Core.Path.{ap, _∙_}
+use Rattle.hns_refusals.specs.Refusals.{trailingBytes}
 use borrow.Author.Needs.{needs}
 use Rattle.hns_encoding.proofs.Reading.{finish-done, finish-left}
 use native.Mathlib.Omega.{arith}
@@ -14,7 +16,7 @@ returns : tie.Need-returns
 returns c = finish-done _ _ (omega arith)
 
 returns-2 : tie.Need-returns-2
-returns-2 c = finish-left _ _ (λ e. omega arith) (cc)
+returns-2 c = finish-left _ _ (λ e. omega arith) (c .trailing-bytes .ensures ∙ ap trailingBytes (c .before .before .remaining .ensures))
 
 pub finish-spec : {M : Type 1} → statement M
 finish-spec = tie.close (tie.spec remaining-requires trailing-bytes-requires returns returns-2)

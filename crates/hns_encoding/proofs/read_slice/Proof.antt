@@ -1,3 +1,6 @@
+use Prim.Native.Nat.{ℕ, _-_}
+use mathlib.Core.Path.{ap, _∙_}
+use Rattle.hns_refusals.specs.Refusals.{unexpectedEnd}
 use borrow.Author.Needs.{needs}
 use native.Mathlib.Omega.{arith}
 use Rattle.hns_encoding.proofs.Reading.{slice-fits, slice-short}
@@ -20,7 +23,9 @@ returns : tie.Need-returns
 returns c = slice-fits _ _ _ (omega arith)
 
 returns-2 : tie.Need-returns-2
-returns-2 c = slice-short _ _ _ (omega arith) (cc)
+returns-2 c =
+    let a = c .before .before .before .before .args in
+    slice-short _ _ _ (omega arith) (c .unexpected-end .ensures ∙ ap (λ (n : ℕ). unexpectedEnd (a .position) (a .length - n)) (c .before .before .remaining .ensures))
 
 pub read-slice-spec : {M : Type 1} → statement M
 read-slice-spec =

@@ -1,3 +1,5 @@
+use Rattle.hns_rows.specs.Rows.{exactRow}
+use Rattle.hns_ffi.proofs.Stored.{stored}
 use borrow.Author.Needs.{needs}
 use Rattle.hns_ffi.proofs.hns_decode_exact.Statement.{statement}
 use Rattle.hns_ffi.proofs.hns_decode_exact.Tie as tie
@@ -18,7 +20,7 @@ same-length : tie.Need-same-length
 same-length c = search needs
 
 returns : tie.Need-returns
-returns c = cc (c .before .before .store .ensures, c .before .before .before .of-exact .ensures, c .before .before .before .before .before .decode-exact .ensures, c .before .before .before .before .before .before .network-of .ensures)
+returns c = stored exactRow _ (c .before .before .store .ensures) (c .before .before .before .of-exact .ensures) (rw (c .before .before .before .before .before .before .network-of .ensures) at (c .before .before .before .before .before .decode-exact .ensures))
 
 pub hns-decode-exact-spec : {M : Type 1} → statement M
 hns-decode-exact-spec =

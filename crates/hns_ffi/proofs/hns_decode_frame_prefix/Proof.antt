@@ -1,3 +1,5 @@
+use Rattle.hns_rows.specs.Rows.{prefixRow}
+use Rattle.hns_ffi.proofs.Stored.{stored}
 use borrow.Author.Needs.{needs}
 use Rattle.hns_ffi.proofs.hns_decode_frame_prefix.Statement.{statement}
 use Rattle.hns_ffi.proofs.hns_decode_frame_prefix.Tie as tie
@@ -18,7 +20,7 @@ same-length : tie.Need-same-length
 same-length c = search needs
 
 returns : tie.Need-returns
-returns c = cc (c .before .before .store .ensures, c .before .before .before .of-prefix .ensures, c .before .before .before .before .before .decode-frame-prefix .ensures, c .before .before .before .before .before .before .network-of .ensures)
+returns c = stored prefixRow _ (c .before .before .store .ensures) (c .before .before .before .of-prefix .ensures) (rw (c .before .before .before .before .before .before .network-of .ensures) at (c .before .before .before .before .before .decode-frame-prefix .ensures))
 
 pub hns-decode-frame-prefix-spec : {M : Type 1} → statement M
 hns-decode-frame-prefix-spec =

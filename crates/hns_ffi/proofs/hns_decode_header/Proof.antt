@@ -1,3 +1,6 @@
+use Rattle.hns_header_consensus.specs.declared.Decoded.{Decoded}
+use Rattle.hns_rows.specs.Rows.{headerRow}
+use Rattle.hns_ffi.proofs.Stored.{stored}
 use borrow.Author.Needs.{needs}
 use Rattle.hns_ffi.proofs.hns_decode_header.Statement.{statement}
 use Rattle.hns_ffi.proofs.hns_decode_header.Tie as tie
@@ -23,7 +26,7 @@ same-length-2 c = search needs
 returns : tie.Need-returns
 returns c =
     let d = c .before .before .before .before .before .before .decode .ensures in
-    (cc (c .before .before .store .ensures, c .before .before .before .of-header .ensures, d), c .before .before .before .before .before .before .before .before .before .keep-hashes .ensures)
+    (stored (λ (z : Decoded). headerRow (z .answer) (z .header)) _ (c .before .before .store .ensures) (c .before .before .before .of-header .ensures) d, c .before .before .before .before .before .before .before .before .before .keep-hashes .ensures)
 
 pub hns-decode-header-spec : {M : Type 1} → statement M
 hns-decode-header-spec =

@@ -1,3 +1,5 @@
+use Rattle.hns_rows.specs.Rows.{encodedRow}
+use Rattle.hns_ffi.proofs.Stored.{stored}
 use borrow.Author.Needs.{needs}
 use Rattle.hns_ffi.proofs.hns_encode_frame.Statement.{statement}
 use Rattle.hns_ffi.proofs.hns_encode_frame.Tie as tie
@@ -24,7 +26,7 @@ returns : tie.Need-returns
 returns c =
     let p = c .before .before .before .before .before .before .before in
     let net = p .before .before .network-of .ensures in
-    (cc (c .before .before .store .ensures, c .before .before .before .of-encoded .ensures, p .encode .ensures .0, net), cc (p .encode .ensures .1, net))
+    (stored encodedRow _ (c .before .before .store .ensures) (c .before .before .before .of-encoded .ensures) (rw (net) at (p .encode .ensures .0)), rw net at (p .encode .ensures .1))
 
 pub hns-encode-frame-spec : {M : Type 1} → statement M
 hns-encode-frame-spec =

@@ -1,3 +1,5 @@
+use Rattle.hns_rows.specs.Rows.{finishedRow}
+use Rattle.hns_ffi.proofs.Stored.{stored}
 use borrow.Author.Needs.{needs}
 use Rattle.hns_ffi.proofs.hns_finish.Statement.{statement}
 use Rattle.hns_ffi.proofs.hns_finish.Tie as tie
@@ -15,7 +17,7 @@ same-length : tie.Need-same-length
 same-length c = search needs
 
 returns : tie.Need-returns
-returns c = cc (c .before .before .store .ensures, c .before .before .before .of-finished .ensures, c .before .before .before .before .finish .ensures)
+returns c = stored finishedRow _ (c .before .before .store .ensures) (c .before .before .before .of-finished .ensures) (c .before .before .before .before .finish .ensures)
 
 pub hns-finish-spec : {M : Type 1} → statement M
 hns-finish-spec =

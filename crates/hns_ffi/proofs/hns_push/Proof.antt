@@ -1,3 +1,5 @@
+use Rattle.hns_rows.specs.Rows.{pushedRow}
+use Rattle.hns_ffi.proofs.Stored.{stored}
 use borrow.Author.Needs.{needs}
 use Rattle.hns_ffi.proofs.hns_push.Statement.{statement}
 use Rattle.hns_ffi.proofs.hns_push.Tie as tie
@@ -27,7 +29,7 @@ returns : tie.Need-returns
 returns c =
     let p = c .before .before .before .before .before .before .before .before .before in
     let net = p .before .before .before .network-of .ensures in
-    (cc (c .before .before .store .ensures, c .before .before .before .of-pushed .ensures, p .push .ensures .0, net), (cc (p .push .ensures .1 .0, net), cc (p .push .ensures .1 .1, net)))
+    (stored pushedRow _ (c .before .before .store .ensures) (c .before .before .before .of-pushed .ensures) (rw (net) at (p .push .ensures .0)), (rw net at (p .push .ensures .1 .0), rw net at (p .push .ensures .1 .1)))
 
 pub hns-push-spec : {M : Type 1} → statement M
 hns-push-spec =

@@ -1,3 +1,5 @@
+use Rattle.hns_rows.specs.Rows.{sizesRow}
+use Rattle.hns_ffi.proofs.Stored.{stored}
 use borrow.Author.Needs.{needs}
 use Rattle.hns_ffi.proofs.hns_read_compact_sizes.Statement.{statement}
 use Rattle.hns_ffi.proofs.hns_read_compact_sizes.Tie as tie
@@ -20,7 +22,7 @@ same-length-2 c = search needs
 returns : tie.Need-returns
 returns c =
     let read = c .before .before .before .before .before .before .before .read-compact-sizes .ensures in
-    (cc (c .before .before .store .ensures, c .before .before .before .of-sizes .ensures, read .0), read .1)
+    (stored sizesRow _ (c .before .before .store .ensures) (c .before .before .before .of-sizes .ensures) (read .0), read .1)
 
 pub hns-read-compact-sizes-spec : {M : Type 1} → statement M
 hns-read-compact-sizes-spec =

@@ -1,3 +1,5 @@
+use Rattle.hns_rows.specs.Rows.{numberRow}
+use Rattle.hns_ffi.proofs.Stored.{stored}
 use borrow.Author.Needs.{needs}
 use Rattle.hns_ffi.proofs.hns_read_u8.Statement.{statement}
 use Rattle.hns_ffi.proofs.hns_read_u8.Tie as tie
@@ -15,7 +17,7 @@ same-length : tie.Need-same-length
 same-length c = search needs
 
 returns : tie.Need-returns
-returns c = cc (c .before .before .store .ensures, c .before .before .before .of-number .ensures, c .before .before .before .before .read-u8 .ensures)
+returns c = stored numberRow _ (c .before .before .store .ensures) (c .before .before .before .of-number .ensures) (c .before .before .before .before .read-u8 .ensures)
 
 pub hns-read-u8-spec : {M : Type 1} → statement M
 hns-read-u8-spec =

@@ -3,20 +3,20 @@ use Prim.Native.Nat.{_+_, _-_, _/_, _^_, _<_}
 use mathlib.Core.Path.{_≡_, refl, _∙_}
 use mathlib.Core.List.{_++_, append-nil}
 use native.Mathlib.Omega.{arith}
-use lib.ListN.{length, take, drop, set, length-set, length-drop}
+use lib.ListN.{length, getD, take, drop, set, length-set, length-drop}
 use lib.Seq.{take-all}
 use borrow.Author.Needs.{needs}
 use Rattle.hns_encoding.proofs.Puts.{put-length}
 use Rattle.survey_export.specs.Text.{decimalUpTo, decimal}
-use Rattle.survey_export.proofs.Digits.{rest-turn, decimal-turn, decimal-end}
+use Rattle.survey_export.proofs.Digits.{table, table-low, rest-turn, decimal-turn, decimal-end}
 use Rattle.survey_export.proofs.put_decimal.Statement.{statement}
 use Rattle.survey_export.proofs.put_decimal.Tie as tie
 
 abbrev Inv-loop : tie.InvT-loop
-Inv-loop encoder out n text₀ rest₀ i₀ text rest i = (i < 20) × ((length text ≡ 20) × ((rest < 10 ^ (i + 1)) × (decimalUpTo (i + 1) rest ++ drop (i + 1) text ≡ decimal n)))
+Inv-loop encoder out n digits text₀ rest₀ i₀ text rest i = (i < 20) × ((length text ≡ 20) × ((rest < 10 ^ (i + 1)) × (decimalUpTo (i + 1) rest ++ drop (i + 1) text ≡ decimal n)))
 
 abbrev μ-loop : tie.MeasureT-loop
-μ-loop encoder out n text₀ rest₀ i₀ text rest i = rest
+μ-loop encoder out n digits text₀ rest₀ i₀ text rest i = rest
 
 more : (c : tie.In-loop Inv-loop μ-loop) → (0 < c .before .loop .i) × (c .before .loop .rest / 10 < 10 ^ c .before .loop .i)
 more c = rest-turn (c .before .loop .i) (c .before .loop .rest) (c .loop-test .taken) (c .before .loop .inv .1 .1 .0)
@@ -25,11 +25,8 @@ loop-holds : tie.Need-loop-holds Inv-loop μ-loop
 unfolding decimal
 loop-holds c = (omega arith, (refl, (omega arith, append-nil _)))
 
-add-text : tie.Need-add-text Inv-loop μ-loop
-add-text c = omega arith
-
-cast-text : tie.Need-cast-text Inv-loop μ-loop
-cast-text c = omega arith
+array-read-text : tie.Need-array-read-text Inv-loop μ-loop
+array-read-text c = omega arith
 
 array-write-text : tie.Need-array-write-text Inv-loop μ-loop
 array-write-text c = omega arith
@@ -45,13 +42,10 @@ loop-again c =
     let l = c .before .loop in
     let t = more c in
     let place : l .i - 1 + 1 ≡ l .i = omega arith in
-    rw place (omega arith, (length-set (l .text) (l .i) _ ∙ l .inv .1 .0, (t .1, decimal-turn (l .i) (c .before .before .before .args .n) (l .rest) (l .text) (c .loop-test .taken) (omega arith) refl (l .inv .1 .1 .1))))
+    rw place (omega arith, (length-set (l .text) (l .i) _ ∙ l .inv .1 .0, (t .1, decimal-turn (l .i) (c .before .before .before .args .n) (l .rest) (l .text) (c .loop-test .taken) (omega arith) (table-low _ (omega arith)) (l .inv .1 .1 .1))))
 
-add-text-2 : tie.Need-add-text-2 Inv-loop μ-loop
-add-text-2 c = omega arith
-
-cast-text-2 : tie.Need-cast-text-2 Inv-loop μ-loop
-cast-text-2 c = omega arith
+array-read-text-2 : tie.Need-array-read-text-2 Inv-loop μ-loop
+array-read-text-2 c = omega arith
 
 array-write-text-2 : tie.Need-array-write-text-2 Inv-loop μ-loop
 array-write-text-2 c = omega arith
@@ -72,10 +66,9 @@ returns : tie.Need-returns Inv-loop μ-loop
 returns c =
     let a = c .before .before .before .before .before .before .before .before .before .args in
     let l = c .before .before .before .before .before .before .before .loop in
-    let text = set (l .text) (l .i) (48 + l .rest) in
-    let all : take (20 - l .i) (drop (l .i) (set (l .text) (l .i) (48 + l .rest))) ≡ drop (l .i) (set (l .text) (l .i) (48 + l .rest)) =
+    let all : take (20 - l .i) (drop (l .i) (set (l .text) (l .i) (getD table (l .rest) 0))) ≡ drop (l .i) (set (l .text) (l .i) (getD table (l .rest) 0)) =
     take-all (20 - l .i) _ (simp (length-drop, length-set) (omega (arith, l .inv .1 .0))) in
-    let digits = decimal-end (l .i) (a .n) (l .rest) (l .text) (c .before .before .before .before .before .before .loop-test .left) (omega arith) refl (l .inv .1 .1 .1) in
+    let digits = decimal-end (l .i) (a .n) (l .rest) (l .text) (c .before .before .before .before .before .before .loop-test .left) (omega arith) (table-low _ (omega arith)) (l .inv .1 .1 .1) in
     rw (all, digits) at (c .before .before .put-bytes .ensures)
 
 same-length : tie.Need-same-length Inv-loop μ-loop
@@ -88,14 +81,12 @@ put-decimal-spec =
     Inv-loop
     μ-loop
     loop-holds
-    add-text
-    cast-text
+    array-read-text
     array-write-text
     sub-i
     loop-less
     loop-again
-    add-text-2
-    cast-text-2
+    array-read-text-2
     array-write-text-2
     sub-put-bytes
     part-put-bytes-start
