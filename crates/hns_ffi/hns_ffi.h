@@ -2,9 +2,14 @@
  *
  * Link with libhns_ffi.a, which `rt staticlib hns_ffi` writes.
  *
- * A slice is a pointer that is not null and a count; lent slices of one call do not overlap. No
- * call asks more of its caller. None keeps a pointer, allocates, or touches anything but what it
- * is lent.
+ * What the caller must see to, since no proof reaches beyond the call:
+ *
+ *   - a slice is a pointer that is not null, also for no bytes, and a count of things that are all
+ *     there, fewer than 2^63 bytes together, and may be written where the pointer is not to const;
+ *   - numbers (uint64_t) are aligned as such;
+ *   - a slice that may be written overlaps no other slice of the call.
+ *
+ * No call asks more. None keeps a pointer, allocates, or touches anything but what it is lent.
  *
  * A row is six numbers at the front of `answer`; what does not fit is dropped. Its first is 0,
  * and what was answered follows, or it is the number of a refusal, and its values a, b, c follow.
@@ -28,7 +33,7 @@
  * (a missing); 15 header length (a); 16 output too short (a needed); 17 store too short
  * (a needed); 18 held count over the store (a held).
  *
- * Networks: 0 mainnet, 1 testnet, 2 regtest, simnet from 3 on.
+ * Networks: 0 mainnet, 1 testnet, 2 regtest, 3 simnet. A greater number is taken as simnet, not refused.
  */
 #ifndef HNS_FFI_H
 #define HNS_FFI_H
@@ -67,7 +72,8 @@ void hns_read_varbytes(const uint8_t *input, size_t input_len, size_t position, 
 void hns_finish(const uint8_t *input, size_t input_len, size_t position,
                 uint64_t *answer, size_t answer_len);
 
-/* Puts at a place, which answer the next place. What does not fit is counted and not stored. */
+/* Puts at a place, which answer the next place. What does not fit is counted and not stored, and is
+ * not refused: compare the last place with the length. */
 size_t hns_put_u8(uint8_t value, uint8_t *out, size_t out_len, size_t position);
 size_t hns_put_u16_le(uint16_t value, uint8_t *out, size_t out_len, size_t position);
 size_t hns_put_u32_le(uint32_t value, uint8_t *out, size_t out_len, size_t position);
@@ -80,7 +86,7 @@ size_t hns_put_varbytes(const uint8_t *value, size_t value_len,
 
 /* Headers. The hashes stand side by side, 216 bytes: previous block 32, tree root 32, extra
  * nonce 24, reserved root 32, witness root 32, merkle root 32, mask 32. A refused read leaves
- * them alone; a hash to put that is not all there is put as zeros. */
+ * them alone; a hash to put that is not all there is put as zeros, and not refused. */
 void hns_decode_header(const uint8_t *input, size_t input_len,
                        uint8_t *hashes, size_t hashes_len,
                        uint64_t *answer, size_t answer_len);
@@ -96,12 +102,12 @@ void hns_decode_frame_prefix(uint8_t network, const uint8_t *input, size_t input
                              uint64_t *answer, size_t answer_len);
 void hns_decode_exact(uint8_t network, const uint8_t *input, size_t input_len,
                       uint64_t *answer, size_t answer_len);
-void hns_encode_frame(uint8_t network, uint8_t kind, const uint8_t *payload, size_t payload_len,
+void hns_encode_frame(uint8_t network, uint8_t packet_type, const uint8_t *payload, size_t payload_len,
                       uint8_t *out, size_t out_len, uint64_t *answer, size_t answer_len);
 
-/* A push into a stream whose held bytes are the first of `buffer`. Give each push the held count
+/* A push into a stream whose held bytes are the first of `store`. Give each push the held count
  * that the one before answered, 0 at first, and leave the held bytes alone in between. */
-void hns_push(uint8_t network, uint8_t *buffer, size_t buffer_len, size_t held,
+void hns_push(uint8_t network, uint8_t *store, size_t store_len, size_t held,
               const uint8_t *input, size_t input_len, uint8_t *output, size_t output_len,
               uint64_t *answer, size_t answer_len);
 

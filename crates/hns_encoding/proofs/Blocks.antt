@@ -1,17 +1,18 @@
--- A format with no counts, texts or tags reads as one block: its value where it fits, else the refusal of the first read that does not fit. It writes as many bytes as it reads.
+-- A format without counts reads as one block, whose widths its texts and tags say: its value where it fits, else the refusal of the first read that does not fit. One of fixed size writes as many bytes as it reads.
 use Prim.Native.Nat.{ℕ, _+_, _-_, _≤_, _<_}
 use mathlib.Core.Path.{_≡_, refl, ap}
-use mathlib.Core.List.{List, [], _∷_, _++_}
+use mathlib.Core.List.{List, [], _∷_, _++_, map}
 use mathlib.Core.Logic.{⊎-elim}
 use native.Mathlib.Omega.{arith}
 use lib.ListN.{length, length-append, length-replicate}
 use lib.Dec.{eqb}
 use borrow.Author.Tests.{le-leb, lt-leb}
-use Rattle.hns_encoding.specs.Bytes.{le, Outcome, got, stop, after, part, left, bytesAt, leAt, toEnd}
-use Rattle.hns_encoding.specs.Format.{Format, nothing, num, raw, reserved, host, flag, text, counted, indexes, whole, tagged, _▸_, read, write, ipOf, widths, sum, size, Fixed, short, valueAt}
+use Rattle.hns_encoding.specs.Bytes.{Outcome, got, stop, after, part, left, bytesAt, leAt, numberAt, toEnd}
+use Rattle.hns_encoding.specs.Format.{Format, nothing, num, raw, reserved, host, flag, text, counted, indexes, whole, tagged, _▸_, read, write, low7, ipOf, widths, sum, size, Fixed, fixedFlat, widthsAt, short, valueAt}
 use Rattle.hns_encoding.specs.Laws.{Block, ReadsAsBlock, WritesAsMany}
 use Rattle.hns_encoding.proofs.Numbers.{lt-or-ge, length-leBytes, part-length}
 use Rattle.hns_encoding.proofs.Outcomes.{bytes-fits, bytes-short, toEnd-fits}
+use Rattle.hns_encoding.proofs.Reading.{number-there}
 
 pub sum-append : (xs ys : List ℕ) → sum (xs ++ ys) ≡ sum xs + sum ys
 sum-append [] ys = omega arith
@@ -48,14 +49,16 @@ bytes-block n s p =
 made-block : {A B : Type 0} (g : A → B) (o : Outcome A) (ws : List ℕ) (v : A) (s : List ℕ) (p : ℕ) → Block o ws v s p → Block (after o (λ a next. got (g a) next)) ws (g v) s p
 made-block g o ws v s p h = (λ k. rw (h .0 k), λ k. rw (h .1 k))
 
-number-block : (n : ℕ) (s : List ℕ) (p : ℕ) → Block (leAt n s p) (n ∷ []) (le (part s p n)) s p
+number-block : (n : ℕ) (s : List ℕ) (p : ℕ) → Block (leAt n s p) (n ∷ []) (numberAt n s p) s p
 unfolding leAt
-number-block n s p = made-block le (bytesAt n s p) (n ∷ []) (part s p n) s p (bytes-block n s p)
+number-block n s p =
+    let one : n + 0 ≡ n = omega arith in
+    rw one (λ h. rw (bytes-fits n s p h, number-there n s p h), λ h. rw (bytes-short n s p h, lt-leb _ _ h))
 
--- two blocks are one
-two-blocks : {A B C : Type 0} (h : A → B → C) (f : List ℕ → ℕ → Outcome A) (g : List ℕ → ℕ → Outcome B) (ws vs : List ℕ) (a : A) (b : B) (s : List ℕ) (p : ℕ)
-    → Block (f s p) ws a s p → Block (g s (p + sum ws)) vs b s (p + sum ws)
-    → Block (after (f s p) (λ x next. after (g s next) (λ y last. got (h x y) last))) (ws ++ vs) (h a b) s p
+-- two blocks are one; what the second is may depend on the first's value
+two-blocks : {A : Type 0} {B : A → Type 0} {C : Type 0} (h : (x : A) → B x → C) (f : List ℕ → ℕ → Outcome A) (g : (x : A) → List ℕ → ℕ → Outcome (B x)) (ws vs : List ℕ) (a : A) (b : B a) (s : List ℕ) (p : ℕ)
+    → Block (f s p) ws a s p → Block (g a s (p + sum ws)) vs b s (p + sum ws)
+    → Block (after (f s p) (λ x next. after (g x s next) (λ y last. got (h x y) last))) (ws ++ vs) (h a b) s p
 two-blocks h f g ws vs a b s p one two =
     let both = sum-append ws vs in
     let end : p + sum (ws ++ vs) ≡ p + sum ws + sum vs = omega arith in
@@ -76,28 +79,52 @@ whole-block n item ws v s p all inner =
       λ h. rw (bytes-short n s p h, lt-leb _ _ h),
     )
 
--- A format of fixed size is a block.
+-- a format of fixed size has its widths at every place
+fixed-widths : (f : Format) → Fixed f → (s : List ℕ) (p : ℕ) → widthsAt f s p ≡ widths f
+fixed-widths nothing x s p = refl
+fixed-widths (num n) x s p = refl
+fixed-widths (raw n) x s p = refl
+fixed-widths (reserved n) x s p = refl
+fixed-widths host x s p = refl
+fixed-widths flag x s p = refl
+fixed-widths (text field) x s p = absurd x
+fixed-widths (counted limit field f) x s p = absurd x
+fixed-widths indexes x s p = absurd x
+fixed-widths (whole n f) x s p = refl
+fixed-widths (tagged k) x s p = absurd x
+fixed-widths (f ▸ g) x s p = rw (fixed-widths f (x .0) s p, fixed-widths g (x .1) s (p + sum (widths f)))
+
+-- A format without counts is a block.
 pub block : ReadsAsBlock
 unfolding read
 block nothing x s p = (λ h. ap (got tt) (omega arith), λ h. absurd (omega arith))
 block (num n) x s p = number-block n s p
 block (raw n) x s p = bytes-block n s p
 block (reserved n) x s p = made-block (λ bs. tt) (bytesAt n s p) (n ∷ []) (part s p n) s p (bytes-block n s p)
-block host x s p = two-blocks ipOf (leAt 1) (bytesAt 36) (1 ∷ []) (36 ∷ []) (le (part s p 1)) (part s (p + 1) 36) s p (number-block 1 s p) (bytes-block 36 s (p + 1))
-block flag x s p = made-block (λ n. eqb n 1) (leAt 1 s p) (1 ∷ []) (le (part s p 1)) s p (number-block 1 s p)
-block (text field) x s p = absurd x
+block host x s p = two-blocks ipOf (leAt 1) (λ k. bytesAt 36) (1 ∷ []) (36 ∷ []) (numberAt 1 s p) (part s (p + 1) 36) s p (number-block 1 s p) (bytes-block 36 s (p + 1))
+block flag x s p = made-block (λ n. eqb n 1) (leAt 1 s p) (1 ∷ []) (numberAt 1 s p) s p (number-block 1 s p)
+block (text field) x s p =
+    two-blocks (λ n bs. map low7 bs) (leAt 1) bytesAt (1 ∷ []) (numberAt 1 s p ∷ []) (numberAt 1 s p) (part s (p + 1) (numberAt 1 s p)) s p (number-block 1 s p) (bytes-block (numberAt 1 s p) s (p + 1))
 block (counted limit field f) x s p = absurd x
 block indexes x s p = absurd x
-block (whole n f) x s p = whole-block n (read f) (widths f) (valueAt f (x .1) (part s p n) 0) s p (x .0) (block f (x .1) (part s p n) 0)
-block (tagged k) x s p = absurd x
+block (whole n f) x s p =
+    whole-block n (read f) (widths f) (valueAt f (fixedFlat f (x .1)) (part s p n) 0) s p (x .0) (rw (fixed-widths f (x .1) (part s p n) 0) at (block f (fixedFlat f (x .1)) (part s p n) 0))
+block (tagged k) x s p =
+    let t = numberAt 1 s p in
+    two-blocks (λ t v. (t, v)) (leAt 1) (λ t. read (k t)) (1 ∷ []) (widthsAt (k t) s (p + 1)) t (valueAt (k t) (x t) s (p + 1)) s p (number-block 1 s p) (block (k t) (x t) s (p + 1))
 block (f ▸ g) x s p =
-    two-blocks (λ a b. (a, b)) (read f) (read g) (widths f) (widths g) (valueAt f (x .0) s p) (valueAt g (x .1) s (p + size f)) s p (block f (x .0) s p) (block g (x .1) s (p + size f))
+    let q = p + sum (widthsAt f s p) in
+    two-blocks (λ a b. (a, b)) (read f) (λ a. read g) (widthsAt f s p) (widthsAt g s q) (valueAt f (x .0) s p) (valueAt g (x .1) s q) s p (block f (x .0) s p) (block g (x .1) s q)
 
-pub block-fits : (f : Format) (x : Fixed f) (s : List ℕ) (p : ℕ) → size f ≤ left s p → read f s p ≡ got (valueAt f x s p) (p + size f)
-block-fits f x s p h = block f x s p .0 h
+-- of fixed size
+fixed-block : (f : Format) (x : Fixed f) (s : List ℕ) (p : ℕ) → Block (read f s p) (widths f) (valueAt f (fixedFlat f x) s p) s p
+fixed-block f x s p = rw (fixed-widths f x s p) at (block f (fixedFlat f x) s p)
+
+pub block-fits : (f : Format) (x : Fixed f) (s : List ℕ) (p : ℕ) → size f ≤ left s p → read f s p ≡ got (valueAt f (fixedFlat f x) s p) (p + size f)
+block-fits f x s p h = fixed-block f x s p .0 h
 
 pub block-short : (f : Format) → Fixed f → (s : List ℕ) (p : ℕ) → left s p < size f → read f s p ≡ stop (short (widths f) p (left s p))
-block-short f x s p h = block f x s p .1 h
+block-short f x s p h = fixed-block f x s p .1 h
 
 -- ---- as many bytes are written
 

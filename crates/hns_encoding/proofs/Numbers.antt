@@ -77,6 +77,10 @@ bytes-take zero h = none
 bytes-take (suc n) none = none
 bytes-take (suc n) (byte b h) = byte b (bytes-take n h)
 
+pub bytes-append : {xs ys : List ℕ} → Bytes xs → Bytes ys → Bytes (xs ++ ys)
+bytes-append none g = g
+bytes-append (byte b h) g = byte b (bytes-append h g)
+
 pub byte-below : (s : List ℕ) → Bytes s → (p : ℕ) → p < length s → getD s p 0 < 256
 byte-below [] bs p h = absurd (omega arith)
 byte-below (b ∷ s) (byte k bs) zero h = k

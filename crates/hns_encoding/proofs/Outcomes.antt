@@ -3,11 +3,10 @@ use Prim.Native.Nat.{ℕ, _+_, _-_, _≤_, _<_}
 use mathlib.Core.Path.{_≡_, refl, _∙_}
 use mathlib.Core.List.{List, [], _∷_}
 use mathlib.Core.Bool.{Bool, true, false}
-use mathlib.Core.Logic.{_⊎_, inl, inr}
 use native.Mathlib.Omega.{arith}
 use lib.ListN.{length, getD}
 use lib.Dec.{leb, eqb}
-use borrow.Author.Tests.{le-leb, lt-leb, leb-true, eq-eqb, eqb-true}
+use borrow.Author.Tests.{le-leb, lt-leb, leb-true, leb-false, eq-eqb, eqb-true}
 use Rattle.hns_refusals.specs.declared.Refusal.{Refusal}
 use Rattle.hns_refusals.specs.Refusals.{unexpectedEnd}
 use Rattle.hns_encoding.specs.Bytes.{choose, Outcome, got, stop, after, part, left, bytesAt, leAt, endAt, toEnd}
@@ -24,9 +23,14 @@ pub choose-got : {A : Type 0} (b : Bool) (o : Outcome A) (r : Refusal) {v : A} {
 choose-got true o r e = (refl, e)
 choose-got false o r e = let z : _≡_ {A = ℕ} 0 1 = cc in absurd (omega arith)
 
-pub choose-cases : {A : Type 0} (b : Bool) (x y z : A) → choose b x y ≡ z → ((b ≡ true) × (x ≡ z)) ⊎ ((b ≡ false) × (y ≡ z))
-choose-cases true x y z e = inl (refl, e)
-choose-cases false x y z e = inr (refl, e)
+-- what holds of both choices holds of the chosen one
+pub choose-holds {κ} : {X : Type 0} (P : X → Type κ) (b : Bool) {x y : X} → (b ≡ true → P x) → (b ≡ false → P y) → P (choose b x y)
+choose-holds P true f g = f refl
+choose-holds P false f g = g refl
+
+-- where the test is whether a number is at most another
+pub choose-leb {κ} : {X : Type 0} (P : X → Type κ) (a b : ℕ) {x y : X} → (a ≤ b → P x) → (b < a → P y) → P (choose (leb a b) x y)
+choose-leb P a b f g = choose-holds P (leb a b) (λ e. f (leb-true a b e)) (λ e. g (leb-false a b e))
 
 -- ---- bytes
 

@@ -17,7 +17,8 @@ use Rattle.hns_encoding.specs.declared.Finished.the-variants as F
 use Rattle.hns_refusals.specs.Refusals.{unexpectedEnd, notShortest, trailingBytes, overLimit}
 use Rattle.hns_encoding.specs.Bytes.{le, Outcome, got, stop, after, choose, part, bytesAt, leAt, numberAt, rawAt, endAt}
 use Rattle.hns_encoding.specs.Compact.{wideAt, compactFrom, compactAt, countAt, boundedAt, varbytesAt}
-use Rattle.hns_encoding.specs.Answers.{numberOf, sliceOf, finishedOf, shortestOf, byForm, Read}
+use Rattle.hns_encoding.specs.Answers.{numberOf, sliceOf, finishedOf}
+use Rattle.hns_encoding.specs.Helpers.{shortestOf, byForm, Read}
 use Rattle.hns_encoding.proofs.Numbers.{part-length, le-part-add, byte-part, le-one}
 use Rattle.hns_encoding.proofs.Outcomes.{after-got, choose-got, bytes-got}
 

@@ -1,11 +1,8 @@
 -- The code's answers, of what the definitions give.
-use Prim.Native.Nat.{ℕ, _-_, _<_, _^_}
-use mathlib.Core.Path.{_≡_}
-use lib.Dec.{leb, eqb}
+use Prim.Native.Nat.{ℕ, _-_}
 use mathlib.Core.List.{List}
 use lib.ListN.{length}
-use Rattle.hns_encoding.specs.Bytes.{Outcome, got, stop, le, part, choose}
-use Rattle.hns_refusals.specs.Refusals.{notShortest}
+use Rattle.hns_encoding.specs.Bytes.{Outcome, got, stop}
 use Rattle.hns_encoding.specs.Compact.{Run}
 use Rattle.hns_encoding.specs.declared.Sizes.{Sizes}
 use Rattle.hns_encoding.specs.declared.Number.{Number}
@@ -27,20 +24,6 @@ sliceOf (stop r) = S.Refused r
 unfoldable pub finishedOf : Outcome (Unit {0}) → Finished
 finishedOf (got u next) = F.Done
 finishedOf (stop r) = F.Refused r
-
--- a number that is at least `least` stays; a smaller one has a shorter form than that of so many bits
-unfoldable pub shortestOf : ℕ → ℕ → Number → Number
-shortestOf least bits (N.Value v next) = choose (leb least v) (N.Value v next) (N.Refused (notShortest bits))
-shortestOf least bits (N.Refused r) = N.Refused r
-
--- r is the number of the n bytes at a place, and so below 256 ^ n
-pub record Read (n : ℕ) (s : List ℕ) (at r : ℕ) : Type 0 where
-  pub value : r ≡ le (part s at n)
-  pub below : r < 256 ^ n
-
--- by the form that a first byte of 253 or more begins, of two, four or eight bytes
-unfoldable pub byForm : ℕ → ℕ → ℕ → ℕ → ℕ
-byForm first two four eight = choose (eqb first 253) two (choose (eqb first 254) four eight)
 
 -- how many were read and the place after them; the values are stored
 unfoldable pub sizesOf : Run → Sizes

@@ -1,4 +1,4 @@
--- Document 01, 'Numbers are little-endian on the wire' and 'Port order': bytes as numbers, and what reading a field at a place answers.
+-- Document 01, its first lines and 'Port order': little-endian numbers, and what reading a field at a place answers.
 use Prim.Native.Nat.{ℕ, zero, suc, _+_, _-_, _*_, _<_, _%_, _/_}
 use mathlib.Core.List.{List, [], _∷_}
 use mathlib.Core.Bool.{Bool, true, false}

@@ -1,4 +1,4 @@
--- Document 01, 'A compact size is 1 byte below 253, else fd and 2, fe and 4, ff and 8, always the shortest', and the reads that a compact size bounds.
+-- Document 01, 'The packet': compact sizes, each in its shortest form, and the reads that a compact size bounds.
 use Prim.Native.Nat.{ℕ, zero, suc, _*_}
 use mathlib.Core.List.{List, [], _∷_, _++_}
 use lib.ListN.{length}

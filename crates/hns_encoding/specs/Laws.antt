@@ -1,10 +1,10 @@
--- What is proved of every format: what it wrote reads back, what it reads it writes again, and a record of fixed size reads as one block.
+-- What is proved of every format: what it wrote reads back, what it reads it writes again, and one without counts reads as one block.
 use Prim.Native.Nat.{ℕ, _+_, _≤_, _<_}
 use mathlib.Core.Path.{_≡_}
 use mathlib.Core.List.{List, _++_}
 use lib.ListN.{length, drop}
 use Rattle.hns_encoding.specs.Bytes.{Bytes, Outcome, got, stop, left, toEnd}
-use Rattle.hns_encoding.specs.Format.{Format, Value, read, write, Fit, Fixed, widths, sum, size, short, valueAt}
+use Rattle.hns_encoding.specs.Format.{Format, Value, read, write, Fit, Fixed, Flat, sum, size, widthsAt, short, valueAt}
 use Rattle.hns_encoding.specs.Marks.{Mark, markAll, marks}
 
 -- ---- what was written reads back
@@ -38,7 +38,7 @@ Forward {A} item put Ok ms = (s : List ℕ) → Bytes s → (p : ℕ) → p ≤ 
 abbrev pub WritesAgain : Type 0
 WritesAgain = (f : Format) → Forward (read f) (write f) (Fit f) (marks f)
 
--- Demand 3: what reads to its end 'is written again .. as the same bytes with whatever document 01 calls not kept set to zero; the written bytes have equal length and read as the same packet'
+-- Demand 3, of any format: what reads to its end is written again with the bytes it had, but for what is not kept, which is zero; it is as long, and reads as the same value
 pub record Rewritten (f : Format) (s : List ℕ) (v : Value f) : Type 0 where
   pub zeroed : write f v ≡ markAll (marks f s 0) s
   pub as-long : length (write f v) ≡ length s
@@ -48,7 +48,7 @@ pub record Rewritten (f : Format) (s : List ℕ) (v : Value f) : Type 0 where
 abbrev pub Rewrites : Type 0
 Rewrites = (f : Format) (s : List ℕ) → Bytes s → (v : Value f) (last : ℕ) → toEnd (read f) s ≡ got v last → Rewritten f s v
 
--- ---- a record of fixed size
+-- ---- a format without counts
 
 -- how a block of reads of these widths reads: its value where it fits, else the refusal of the first read that does not fit
 abbrev pub Block : {A : Type 0} → Outcome A → List ℕ → A → List ℕ → ℕ → Type 0
@@ -56,8 +56,8 @@ Block o ws v s p = (sum ws ≤ left s p → o ≡ got v (p + sum ws)) × (left s
 
 -- `block`, proofs/Blocks.antt
 abbrev pub ReadsAsBlock : Type 0
-ReadsAsBlock = (f : Format) (x : Fixed f) (s : List ℕ) (p : ℕ) → Block (read f s p) (widths f) (valueAt f x s p) s p
+ReadsAsBlock = (f : Format) (x : Flat f) (s : List ℕ) (p : ℕ) → Block (read f s p) (widthsAt f s p) (valueAt f x s p) s p
 
--- `fixed-length`, proofs/Blocks.antt
+-- `fixed-length`, proofs/Blocks.antt: a record of fixed size writes as many bytes as it reads
 abbrev pub WritesAsMany : Type 0
 WritesAsMany = (f : Format) → Fixed f → (v : Value f) → Fit f v → length (write f v) ≡ size f

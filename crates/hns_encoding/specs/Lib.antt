@@ -5,3 +5,4 @@ pub mod Marks
 pub mod Laws
 pub mod Put
 pub mod Answers
+pub mod Helpers

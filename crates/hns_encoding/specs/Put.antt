@@ -1,4 +1,4 @@
--- Document 01, 'each put hands the next cursor back': what a put stores from the cursor on, and where the next one begins.
+-- Document 01, 'What changes shape', the cursor: what a put stores from a place on, and where the next one begins.
 use Prim.Native.Nat.{ℕ, _+_, _-_, _^_, min}
 use mathlib.Core.Path.{_≡_}
 use mathlib.Core.List.{List, _++_}

@@ -2,11 +2,12 @@
 use hns_refusals::Refusal;
 ghost use mathlib.Core.Path.{_≡_};
 ghost use Prim.Native.Nat.{_+_, _≤_, _<_};
-ghost use lib.ListN.{length};
+ghost use lib.ListN.{length, take};
 ghost use Rattle.hns_encoding.specs.Bytes.{choose, left, bytesAt, leAt, numberAt, endAt};
 ghost use Rattle.hns_encoding.specs.Compact.{compactFrom, compactAt, countAt, boundedAt, varbytesAt, sizesAt};
 ghost use Rattle.hns_encoding.specs.Put.{splice};
-ghost use Rattle.hns_encoding.specs.Answers.{numberOf, sliceOf, finishedOf, shortestOf, byForm, sizesOf, Read};
+ghost use Rattle.hns_encoding.specs.Answers.{numberOf, sliceOf, finishedOf, sizesOf};
+ghost use Rattle.hns_encoding.specs.Helpers.{shortestOf, byForm, Read};
 
 // A number and the place after it, or the refusal.
 pub enum Number {
@@ -34,6 +35,13 @@ pub fn remaining(input: &[u8], position: usize) -> usize
     } else {
         0
     }
+}
+
+// The first n bytes, or all where there are fewer.
+pub fn first(bytes: &[u8], n: usize) -> &[u8]
+    ensures { λ r. ⌜ now r ≡ take n (now (bytes .entry)) ⌝ }
+{
+    if n < bytes.len() { &bytes[..n] } else { bytes }
 }
 
 fn wide(x: u8) -> u64
@@ -245,21 +253,28 @@ pub fn read_compact_sizes(input: &[u8], position: usize, values: &mut [u64]) -> 
     Sizes { count, next }
 }
 
-// A compact size of at most `maximum`.
-pub fn read_compact_usize(input: &[u8], position: usize, maximum: usize) -> Number
-    ensures { λ r. ⌜ r ≡ numberOf (countAt maximum 0 (now (input .entry)) position) ⌝ }
+// A compact size of at most `limit`: 7 carries the code of its field.
+pub fn read_count(input: &[u8], position: usize, limit: u64, field: u64) -> Number
+    ensures { λ r. ⌜ r ≡ numberOf (countAt limit field (now (input .entry)) position) ⌝ }
 {
     let read = read_compact_size(input, position);
     match read {
         Number::Value(value, next) => {
-            if value <= maximum as u64 {
+            if value <= limit {
                 Number::Value(value, next)
             } else {
-                Number::Refused(Refusal::over_limit(value, maximum as u64, 0))
+                Number::Refused(Refusal::over_limit(value, limit, field))
             }
         }
         Number::Refused(refusal) => Number::Refused(refusal),
     }
+}
+
+// The Rust's read, which has no field code.
+pub fn read_compact_usize(input: &[u8], position: usize, maximum: usize) -> Number
+    ensures { λ r. ⌜ r ≡ numberOf (countAt maximum 0 (now (input .entry)) position) ⌝ }
+{
+    read_count(input, position, maximum as u64, 0)
 }
 
 // The Rust's read_bounded_vec: n bytes, of at most `maximum`.

@@ -12,7 +12,7 @@ ghost use Rattle.hns_encoding.specs.Format.{write, valueAt};
 ghost use Rattle.hns_header_consensus.specs.Layout.{header, decodeHeader, headerAt};
 ghost use Rattle.hns_header_consensus.specs.Answers.{fieldsOf, headerOf, decodedOf};
 ghost use Rattle.hns_p2p_frame.specs.Frame.{front, decodeExact, writeFrame};
-ghost use Rattle.hns_p2p_frame.specs.Push.{push};
+ghost use Rattle.hns_p2p_frame.specs.Push as Push;
 ghost use Rattle.hns_p2p_frame.specs.Answers.{prefixOf, exactOf};
 ghost use Rattle.hns_ffi.specs.Hashes.{hashesOf, hashesKept, headerFrom};
 ghost use Rattle.hns_rows.specs.Rows.{answered, networkOf, numberRow, sizesRow, sliceRow, finishedRow, headerRow, prefixRow, exactRow, encodedRow, pushedRow};
@@ -22,7 +22,7 @@ ghost use Rattle.hns_rows.specs.Rows.{answered, networkOf, numberRow, sizesRow,
 pub extern "C" fn hns_read_u8(input: &[u8], position: usize, answer: &mut [u64])
     ensures { λ _. ⌜ now (answer .exit) ≡ answered (now (answer .entry)) (numberRow (numberOf (leAt 1 (now (input .entry)) position))) ⌝ }
 {
-    hns_rows::store(
+    hns_rows::put_row(
         answer,
         hns_rows::of_number(hns_encoding::read_u8(input, position)),
     );
@@ -32,7 +32,7 @@ pub extern "C" fn hns_read_u8(input: &[u8], position: usize, answer: &mut [u64])
 pub extern "C" fn hns_read_u16_le(input: &[u8], position: usize, answer: &mut [u64])
     ensures { λ _. ⌜ now (answer .exit) ≡ answered (now (answer .entry)) (numberRow (numberOf (leAt 2 (now (input .entry)) position))) ⌝ }
 {
-    hns_rows::store(
+    hns_rows::put_row(
         answer,
         hns_rows::of_number(hns_encoding::read_u16_le(input, position)),
     );
@@ -42,7 +42,7 @@ pub extern "C" fn hns_read_u16_le(input: &[u8], position: usize, answer: &mut [u
 pub extern "C" fn hns_read_u32_le(input: &[u8], position: usize, answer: &mut [u64])
     ensures { λ _. ⌜ now (answer .exit) ≡ answered (now (answer .entry)) (numberRow (numberOf (leAt 4 (now (input .entry)) position))) ⌝ }
 {
-    hns_rows::store(
+    hns_rows::put_row(
         answer,
         hns_rows::of_number(hns_encoding::read_u32_le(input, position)),
     );
@@ -52,7 +52,7 @@ pub extern "C" fn hns_read_u32_le(input: &[u8], position: usize, answer: &mut [u
 pub extern "C" fn hns_read_u64_le(input: &[u8], position: usize, answer: &mut [u64])
     ensures { λ _. ⌜ now (answer .exit) ≡ answered (now (answer .entry)) (numberRow (numberOf (leAt 8 (now (input .entry)) position))) ⌝ }
 {
-    hns_rows::store(
+    hns_rows::put_row(
         answer,
         hns_rows::of_number(hns_encoding::read_u64_le(input, position)),
     );
@@ -62,7 +62,7 @@ pub extern "C" fn hns_read_u64_le(input: &[u8], position: usize, answer: &mut [u
 pub extern "C" fn hns_read_compact_size(input: &[u8], position: usize, answer: &mut [u64])
     ensures { λ _. ⌜ now (answer .exit) ≡ answered (now (answer .entry)) (numberRow (numberOf (compactAt (now (input .entry)) position))) ⌝ }
 {
-    hns_rows::store(
+    hns_rows::put_row(
         answer,
         hns_rows::of_number(hns_encoding::read_compact_size(input, position)),
     );
@@ -77,7 +77,7 @@ pub extern "C" fn hns_read_compact_usize(
 )
     ensures { λ _. ⌜ now (answer .exit) ≡ answered (now (answer .entry)) (numberRow (numberOf (countAt maximum 0 (now (input .entry)) position))) ⌝ }
 {
-    hns_rows::store(
+    hns_rows::put_row(
         answer,
         hns_rows::of_number(hns_encoding::read_compact_usize(input, position, maximum)),
     );
@@ -95,7 +95,7 @@ pub extern "C" fn hns_read_compact_sizes(
     ensures { λ _. ⌜ now (values .exit) ≡ splice (now (values .entry)) 0 (sizesAt (length (now (values .entry))) (now (input .entry)) position .values) ⌝ }
 {
     let sizes = hns_encoding::read_compact_sizes(input, position, values);
-    hns_rows::store(answer, hns_rows::of_sizes(sizes));
+    hns_rows::put_row(answer, hns_rows::of_sizes(sizes));
 }
 
 // Bytes are answered by their place: where they begin and the place after them.
@@ -103,7 +103,7 @@ pub extern "C" fn hns_read_compact_sizes(
 pub extern "C" fn hns_read_slice(input: &[u8], position: usize, length: usize, answer: &mut [u64])
     ensures { λ _. ⌜ now (answer .exit) ≡ answered (now (answer .entry)) (sliceRow (sliceOf (bytesAt length (now (input .entry)) position))) ⌝ }
 {
-    hns_rows::store(
+    hns_rows::put_row(
         answer,
         hns_rows::of_slice(hns_encoding::read_slice(input, position, length)),
     );
@@ -119,7 +119,7 @@ pub extern "C" fn hns_read_bounded(
 )
     ensures { λ _. ⌜ now (answer .exit) ≡ answered (now (answer .entry)) (sliceRow (sliceOf (boundedAt length maximum (now (input .entry)) position))) ⌝ }
 {
-    hns_rows::store(
+    hns_rows::put_row(
         answer,
         hns_rows::of_slice(hns_encoding::read_bounded(input, position, length, maximum)),
     );
@@ -134,7 +134,7 @@ pub extern "C" fn hns_read_varbytes(
 )
     ensures { λ _. ⌜ now (answer .exit) ≡ answered (now (answer .entry)) (sliceRow (sliceOf (varbytesAt maximum (now (input .entry)) position))) ⌝ }
 {
-    hns_rows::store(
+    hns_rows::put_row(
         answer,
         hns_rows::of_slice(hns_encoding::read_varbytes(input, position, maximum)),
     );
@@ -144,7 +144,7 @@ pub extern "C" fn hns_read_varbytes(
 pub extern "C" fn hns_finish(input: &[u8], position: usize, answer: &mut [u64])
     ensures { λ _. ⌜ now (answer .exit) ≡ answered (now (answer .entry)) (finishedRow (finishedOf (endAt (now (input .entry)) position))) ⌝ }
 {
-    hns_rows::store(
+    hns_rows::put_row(
         answer,
         hns_rows::of_finished(hns_encoding::finish(input, position)),
     );
@@ -236,7 +236,7 @@ pub extern "C" fn hns_decode_header(input: &[u8], hashes: &mut [u8], answer: &mu
     let decoded = Header::decode(input);
     let found = decoded.answer;
     let header = decoded.header;
-    hns_rows::store(answer, hns_rows::of_header(found, header));
+    hns_rows::put_row(answer, hns_rows::of_header(found, header));
 }
 
 // A header at a place of a longer slice.
@@ -254,7 +254,7 @@ pub extern "C" fn hns_read_header(
     let decoded = hns_header_consensus::read_header(input, position);
     let found = decoded.answer;
     let header = decoded.header;
-    hns_rows::store(answer, hns_rows::of_header(found, header));
+    hns_rows::put_row(answer, hns_rows::of_header(found, header));
 }
 
 fn header_from(nonce: u32, time: u64, hashes: &[u8], version: u32, bits: u32) -> Header
@@ -298,7 +298,7 @@ pub extern "C" fn hns_decode_frame_prefix(network: u8, input: &[u8], answer: &mu
     ensures { λ _. ⌜ now (answer .exit) ≡ answered (now (answer .entry)) (prefixRow (prefixOf (front (networkOf network) (now (input .entry))))) ⌝ }
 {
     let prefix = hns_p2p_frame::decode_frame_prefix(hns_rows::network_of(network), input);
-    hns_rows::store(answer, hns_rows::of_prefix(prefix));
+    hns_rows::put_row(answer, hns_rows::of_prefix(prefix));
 }
 
 #[no_mangle]
@@ -306,38 +306,38 @@ pub extern "C" fn hns_decode_exact(network: u8, input: &[u8], answer: &mut [u64]
     ensures { λ _. ⌜ now (answer .exit) ≡ answered (now (answer .entry)) (exactRow (exactOf (decodeExact (networkOf network) (now (input .entry))))) ⌝ }
 {
     let exact = hns_p2p_frame::decode_exact(hns_rows::network_of(network), input);
-    hns_rows::store(answer, hns_rows::of_exact(exact));
+    hns_rows::put_row(answer, hns_rows::of_exact(exact));
 }
 
 #[no_mangle]
 pub extern "C" fn hns_encode_frame(
     network: u8,
-    kind: u8,
+    packet_type: u8,
     payload: &[u8],
     out: &mut [u8],
     answer: &mut [u64],
 )
-    ensures { λ _. ⌜ now (answer .exit) ≡ answered (now (answer .entry)) (encodedRow (writeFrame (networkOf network) (record { kind = kind; payload = now (payload .entry) }) (now (out .entry)) .answer)) ⌝ }
-    ensures { λ _. ⌜ now (out .exit) ≡ writeFrame (networkOf network) (record { kind = kind; payload = now (payload .entry) }) (now (out .entry)) .output ⌝ }
+    ensures { λ _. ⌜ now (answer .exit) ≡ answered (now (answer .entry)) (encodedRow (writeFrame (networkOf network) (record { packetType = «packet_type»; payload = now (payload .entry) }) (now (out .entry)) .answer)) ⌝ }
+    ensures { λ _. ⌜ now (out .exit) ≡ writeFrame (networkOf network) (record { packetType = «packet_type»; payload = now (payload .entry) }) (now (out .entry)) .output ⌝ }
 {
-    let encoded = hns_p2p_frame::encode(hns_rows::network_of(network), kind, payload, out);
-    hns_rows::store(answer, hns_rows::of_encoded(encoded));
+    let encoded = hns_p2p_frame::encode(hns_rows::network_of(network), packet_type, payload, out);
+    hns_rows::put_row(answer, hns_rows::of_encoded(encoded));
 }
 
 // A push into a stream whose held bytes are the store's first. A refused one answers the held count after the refusal's values.
 #[no_mangle]
 pub extern "C" fn hns_push(
     network: u8,
-    buffer: &mut [u8],
+    store: &mut [u8],
     held: usize,
     input: &[u8],
     output: &mut [u8],
     answer: &mut [u64],
 )
-    ensures { λ _. ⌜ now (answer .exit) ≡ answered (now (answer .entry)) (pushedRow (push (networkOf network) (now (buffer .entry)) held (now (input .entry)) (now (output .entry)) .answer)) ⌝ }
-    ensures { λ _. ⌜ now (buffer .exit) ≡ push (networkOf network) (now (buffer .entry)) held (now (input .entry)) (now (output .entry)) .store ⌝ }
-    ensures { λ _. ⌜ now (output .exit) ≡ push (networkOf network) (now (buffer .entry)) held (now (input .entry)) (now (output .entry)) .output ⌝ }
+    ensures { λ _. ⌜ now (answer .exit) ≡ answered (now (answer .entry)) (pushedRow (Push.push (networkOf network) (now (store .entry)) held (now (input .entry)) (now (output .entry)) .answer)) ⌝ }
+    ensures { λ _. ⌜ now (store .exit) ≡ Push.push (networkOf network) (now (store .entry)) held (now (input .entry)) (now (output .entry)) .store ⌝ }
+    ensures { λ _. ⌜ now (output .exit) ≡ Push.push (networkOf network) (now (store .entry)) held (now (input .entry)) (now (output .entry)) .output ⌝ }
 {
-    let pushed = hns_p2p_frame::push(hns_rows::network_of(network), buffer, held, input, output);
-    hns_rows::store(answer, hns_rows::of_pushed(pushed));
+    let pushed = hns_p2p_frame::push(hns_rows::network_of(network), store, held, input, output);
+    hns_rows::put_row(answer, hns_rows::of_pushed(pushed));
 }

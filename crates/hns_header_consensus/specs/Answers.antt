@@ -3,6 +3,7 @@ use Prim.Native.Nat.{ℕ}
 use mathlib.Core.Path.{_≡_}
 use mathlib.Core.List.{List}
 use lib.ListN.{length, replicate}
+use Rattle.hns_refusals.specs.Limits.{blockHeaderSize}
 use Rattle.hns_encoding.specs.Bytes.{Bytes, Outcome, got, stop}
 use Rattle.hns_encoding.specs.Format.{Value, write, Fit}
 use Rattle.hns_header_consensus.specs.Layout.{header, decodeHeader}
@@ -73,8 +74,8 @@ decodedOf (stop r) = record { answer = A.Refused r; header = zeroHeader }
 
 -- `decoded-back`: every header that is encoded decodes as itself
 abbrev pub DecodesBack : Type 0
-DecodesBack = (h : Header) → Fit header (fieldsOf h) → decodedOf (decodeHeader (write header (fieldsOf h))) ≡ done 236 h
+DecodesBack = (h : Header) → Fit header (fieldsOf h) → decodedOf (decodeHeader (write header (fieldsOf h))) ≡ done blockHeaderSize h
 
 -- `encoded-back`: every 236 bytes that are decoded are encoded as themselves
 abbrev pub EncodesBack : Type 0
-EncodesBack = (s : List ℕ) → Bytes s → length s ≡ 236 → write header (fieldsOf (decodedOf (decodeHeader s) .header)) ≡ s
+EncodesBack = (s : List ℕ) → Bytes s → length s ≡ blockHeaderSize → write header (fieldsOf (decodedOf (decodeHeader s) .header)) ≡ s

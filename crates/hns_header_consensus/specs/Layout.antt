@@ -3,6 +3,7 @@ use mathlib.Core.List.{List}
 use Prim.Native.Nat.{ℕ}
 use lib.ListN.{length}
 use lib.Dec.{eqb}
+use Rattle.hns_refusals.specs.Limits.{blockHeaderSize}
 use Rattle.hns_refusals.specs.Refusals.{headerLength}
 use Rattle.hns_encoding.specs.Bytes.{choose, Outcome, stop}
 use Rattle.hns_encoding.specs.Format.{Format, num, raw, whole, _▸_, Value, read}
@@ -13,8 +14,8 @@ header = num 4 ▸ num 8 ▸ raw 32 ▸ raw 32 ▸ raw 24 ▸ raw 32 ▸ raw 32 
 
 -- a header alone: 15 for any other length
 unfoldable pub decodeHeader : List ℕ → Outcome (Value header)
-decodeHeader s = choose (eqb (length s) 236) (read header s 0) (stop (headerLength (length s)))
+decodeHeader s = choose (eqb (length s) blockHeaderSize) (read header s 0) (stop (headerLength (length s)))
 
 -- a header at a place, as in a headers packet: one read of 236 bytes
 unfoldable pub headerAt : List ℕ → ℕ → Outcome (Value header)
-headerAt s at = read (whole 236 header) s at
+headerAt s at = read (whole blockHeaderSize header) s at

@@ -4,7 +4,6 @@ pub mod Walks
 pub mod Tests
 pub mod Answers
 pub mod Turns
-pub mod Pushes
 pub mod Settles
-pub mod Demand3
-pub mod Worked
+pub mod Writes
+pub mod Exacts

@@ -7,6 +7,7 @@ use mathlib.Core.List.{List, _++_, append-assoc}
 use lib.ListN.{length, take, drop, length-append, take-append-drop}
 use lib.Seq.{take-at, drop-at, length-take-le}
 use Rattle.hns_refusals.specs.declared.Refusal.{Refusal}
+use Rattle.hns_refusals.specs.Limits.{maxStream}
 use Rattle.hns_refusals.specs.Refusals.{refusal, streamTooLarge, outputShort, storeShort, heldOver}
 use Rattle.hns_encoding.specs.Bytes.{Bytes, part}
 use Rattle.hns_encoding.specs.Put.{splice}
@@ -18,7 +19,7 @@ use Rattle.hns_p2p_frame.specs.declared.Walk.the-variants as W
 use Rattle.hns_p2p_frame.specs.Frame.{Frame, encodings}
 use Rattle.hns_p2p_frame.specs.Walk.{Walked, stopped, refused, walk}
 use Rattle.hns_p2p_frame.specs.Push.{Result, needed, turnedAway, settled, push}
-use Rattle.hns_p2p_frame.specs.Answers.{walkOf}
+use Rattle.hns_p2p_frame.specs.Helpers.{walkOf}
 use Rattle.hns_p2p_frame.proofs.Walks.{WalkCut, walk-cut}
 use Rattle.hns_p2p_frame.proofs.Tests.{over, large, unstored, no-room, fits, push-is}
 use Rattle.hns_p2p_frame.proofs.Slices.{take-held}
@@ -87,25 +88,25 @@ module _ (net : NetworkMagic) (s : List ℕ) (t : ℕ) (o : List ℕ) (fits : t 
 
 module _ (net : NetworkMagic) (s : List ℕ) (h : ℕ) (x o : List ℕ) where
   pub away-18 : {r : Pushed} → length s < h → r ≡ Refused (refusal 18 h 0 0) h → Gives (push net s h x o) r s o
-  away-18 a e = gives (turnedAway (heldOver h) s h o) (push-is (over a)) e
+  away-18 a e = gives (turnedAway (heldOver h) s h o) (push-is net (over a)) e
 
   module _ (a : h ≤ length s) (sum : h + length x < 2 ^ 64) where
     -- the sum is below 2^64
     need : (n b : ℕ) → Refused (refusal n (h + length x) b 0) h ≡ Refused (refusal n (needed h x) b 0) h
     need n b = ap (λ (k : ℕ). Refused (refusal n k b 0) h) (sym (min-eq-left (omega arith)))
 
-    pub away-6 : {r : Pushed} → 16000018 < h + length x → r ≡ Refused (refusal 6 (h + length x) 16000018 0) h → Gives (push net s h x o) r s o
-    away-6 b e = gives (turnedAway (streamTooLarge (needed h x)) s h o) (push-is (large a b)) (e ∙ need 6 16000018)
+    pub away-6 : {r : Pushed} → maxStream < h + length x → r ≡ Refused (refusal 6 (h + length x) maxStream 0) h → Gives (push net s h x o) r s o
+    away-6 b e = gives (turnedAway (streamTooLarge (needed h x)) s h o) (push-is net (large a b)) (e ∙ need 6 maxStream)
 
-    module _ (b : h + length x ≤ 16000018) where
+    module _ (b : h + length x ≤ maxStream) where
       pub away-17 : {r : Pushed} → length s < h + length x → r ≡ Refused (refusal 17 (h + length x) 0 0) h → Gives (push net s h x o) r s o
-      away-17 c e = gives (turnedAway (storeShort (needed h x)) s h o) (push-is (unstored a b c)) (e ∙ need 17 0)
+      away-17 c e = gives (turnedAway (storeShort (needed h x)) s h o) (push-is net (unstored a b c)) (e ∙ need 17 0)
 
       module _ (c : h + length x ≤ length s) where
         pub away-16 : {r : Pushed} → length o < h + length x → r ≡ Refused (refusal 16 (h + length x) 0 0) h → Gives (push net s h x o) r s o
-        away-16 d e = gives (turnedAway (outputShort (needed h x)) s h o) (push-is (no-room a b c d)) (e ∙ need 16 0)
+        away-16 d e = gives (turnedAway (outputShort (needed h x)) s h o) (push-is net (no-room a b c d)) (e ∙ need 16 0)
 
         -- s₁ is the store with the input in it
         pub settles : h + length x ≤ length o → {s₁ : List ℕ} → s₁ ≡ splice s h x → {r : Pushed} {s′ o′ : List ℕ}
             → Gives (settled net (walk net (take (h + length x) s₁)) s₁ (h + length x) o) r s′ o′ → Gives (push net s h x o) r s′ o′
-        settles d e g = rw (push-is {net = net} {s = s} {h = h} {x = x} {o = o} (fits a b c d)) (rw (e, take-held s h x c) at g)
+        settles d e g = rw (push-is net {s = s} {h = h} {x = x} {o = o} (fits a b c d)) (rw (e, take-held s h x c) at g)

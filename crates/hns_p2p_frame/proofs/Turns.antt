@@ -12,11 +12,12 @@ use Rattle.hns_p2p_frame.specs.declared.Prefix.{Prefix}
 use Rattle.hns_p2p_frame.specs.declared.Prefix.the-variants as P
 use Rattle.hns_p2p_frame.specs.declared.Walk.{Walk}
 use Rattle.hns_p2p_frame.specs.declared.Walk.the-variants as W
-use Rattle.hns_p2p_frame.specs.Frame.{Frame, encode, encodings, front}
-use Rattle.hns_p2p_frame.specs.Walk.{Walked, stopped, refused, also, onward, walk}
-use Rattle.hns_p2p_frame.specs.Answers.{prefixOf, walkOf}
+use Rattle.hns_p2p_frame.specs.Frame.{Frame, encoding, encodings, front}
+use Rattle.hns_p2p_frame.specs.Walk.{Walked, stopped, refused, walk}
+use Rattle.hns_p2p_frame.specs.Answers.{prefixOf}
+use Rattle.hns_p2p_frame.specs.Helpers.{walkOf}
 use Rattle.hns_p2p_frame.proofs.Fronts.{front-rest}
-use Rattle.hns_p2p_frame.proofs.Walks.{walk-turn, length-encode}
+use Rattle.hns_p2p_frame.proofs.Walks.{also, onward, walk-turn, length-encoding}
 use Rattle.hns_p2p_frame.proofs.Answers.{front-notYet, front-bad, front-whole}
 
 -- ---- a walk as far as a place
@@ -43,7 +44,7 @@ walked-start net s = record { inside = zero-le; few = zero-le; goes = sym (added
 added-one : (net : NetworkMagic) (f : Frame) (w : Walked) → walkOf net (also f w) ≡ added 1 (9 + length (f .payload)) (walkOf net w)
 unfolding walkOf also encodings
 added-one net f (stopped fs rest) =
-    ap₂ W.Stopped (omega arith) (length-append (encode net f) (encodings net fs) ∙ ap (λ (k : ℕ). k + length (encodings net fs)) (length-encode net f))
+    ap₂ W.Stopped (omega arith) (length-append (encoding net f) (encodings net fs) ∙ ap (λ (k : ℕ). k + length (encodings net fs)) (length-encoding net f))
 added-one net f (refused r) = refl
 
 added-added : (n b m c : ℕ) (w : Walk) → added n b (added m c w) ≡ added (n + m) (b + c) w

@@ -1,10 +1,11 @@
--- Document 01, 'The frame': magic (4 bytes), type (1), payload length (4), payload; what a list of bytes begins with, and the wrapper that refuses more.
+-- Document 01, 'The frame': the encoding of a frame, the frame at the front of a list of bytes, the exact frame, and the writer.
 use Prim.Native.Nat.{ℕ, _+_, _-_, _≤_, _<_}
 use mathlib.Core.List.{List, [], _∷_, _++_}
 use mathlib.Core.Bool.{Bool, true, false, _&&_}
 use lib.ListN.{length, getD, take, drop}
 use lib.Dec.{leb, eqb}
 use Rattle.hns_refusals.specs.declared.Refusal.{Refusal}
+use Rattle.hns_refusals.specs.Limits.{headerSize, maxPayload}
 use Rattle.hns_refusals.specs.Refusals.{trailingBytes, magicMismatch, payloadTooLarge, incompleteFrame, outputShort}
 use Rattle.hns_encoding.specs.Bytes.{le, leBytes, Bytes, choose, part, Outcome, got, stop}
 use Rattle.hns_encoding.specs.Put.{splice}
@@ -20,23 +21,23 @@ magic Regtest = 0xcf ∷ 0x95 ∷ 0x38 ∷ 0xae ∷ []
 magic Simnet = 0xdc ∷ 0x8e ∷ 0x64 ∷ 0x0e ∷ []
 
 pub record Frame : Type 0 where
-  pub kind : ℕ
+  pub packetType : ℕ
   pub payload : List ℕ
 
--- a type that is a byte, and at most 8,000,000 bytes of payload
+-- a frame that the writer accepts: its type and its payload are bytes, and the payload is within its limit
 pub record WellFormed (f : Frame) : Type 0 where
-  pub kind-byte : f .kind < 256
+  pub type-byte : f .packetType < 256
   pub payload-bytes : Bytes (f .payload)
-  pub within : length (f .payload) ≤ 8000000
+  pub within : length (f .payload) ≤ maxPayload
 
--- 'An encoding is the network's magic, type, payload length and payload.'
-unfoldable pub encode : NetworkMagic → Frame → List ℕ
-encode net f = magic net ++ (f .kind ∷ (leBytes 4 (length (f .payload)) ++ f .payload))
+-- magic (4 bytes), type (1), payload length (4), payload
+unfoldable pub encoding : NetworkMagic → Frame → List ℕ
+encoding net f = magic net ++ (f .packetType ∷ (leBytes 4 (length (f .payload)) ++ f .payload))
 
 -- the encodings of frames, in order
 unfoldable pub encodings : NetworkMagic → List Frame → List ℕ
 encodings net [] = []
-encodings net (f ∷ fs) = encode net f ++ encodings net fs
+encodings net (f ∷ fs) = encoding net f ++ encodings net fs
 
 -- ---- the frame at the front
 
@@ -59,15 +60,15 @@ payloadLength xs = le (part xs 5 4)
 
 -- the frame that bytes begin with, where their header is good and its payload is there
 abbrev pub frameOf : List ℕ → Frame
-frameOf xs = record { kind = getD xs 4 0; payload = part xs 9 (payloadLength xs) }
+frameOf xs = record { packetType = getD xs 4 0; payload = part xs headerSize (payloadLength xs) }
 
--- not yet below 9 bytes, even if the magic is already wrong; then a bad header, 4 before 5, whether or not its payload is there; not yet while the payload is incomplete, otherwise the frame
+-- Nothing is tested before a whole header is there, not even the magic. A bad header is then refused at once, its magic (4) before its length (5); a good one waits for its payload.
 unfoldable pub front : NetworkMagic → List ℕ → Front
 front net xs =
-    choose (leb 9 (length xs))
+    choose (leb headerSize (length xs))
     (choose (same (take 4 xs) (magic net))
-    (choose (leb (payloadLength xs) 8000000)
-    (choose (leb (9 + payloadLength xs) (length xs)) (whole (frameOf xs) (drop (9 + payloadLength xs) xs)) notYet)
+    (choose (leb (payloadLength xs) maxPayload)
+    (choose (leb (headerSize + payloadLength xs) (length xs)) (whole (frameOf xs) (drop (headerSize + payloadLength xs) xs)) notYet)
     (bad (payloadTooLarge (payloadLength xs))))
     (bad (magicMismatch (le (magic net)) (le (take 4 xs)))))
     notYet
@@ -82,9 +83,9 @@ payloadOf (bad r) = []
 
 -- how many bytes a frame lacks that is not yet there
 unfoldable pub missing : List ℕ → ℕ
-missing xs = choose (leb 9 (length xs)) (9 + payloadLength xs - length xs) (9 - length xs)
+missing xs = choose (leb headerSize (length xs)) (headerSize + payloadLength xs - length xs) (headerSize - length xs)
 
--- the wrapper that refuses more: 8 for not yet, 3 for bytes after the frame
+-- all of xs is one frame: 8 where it is not yet there, 3 where bytes follow it
 unfoldable pub exactly : List ℕ → Front → Outcome Frame
 exactly xs notYet = stop (incompleteFrame (missing xs))
 exactly xs (whole f rest) = choose (eqb (length rest) 0) (got f (length xs)) (stop (trailingBytes (length rest)))
@@ -100,11 +101,11 @@ pub record Written : Type 0 where
   pub answer : Encoded
   pub output : List ℕ
 
--- 'Writers test .. 5, 16. An accepted call that writes fills its answer's bytes from the output's front and changes no others there.'
+-- 5 before 16; what is written stands at the output's front, and no other byte changes
 unfoldable pub writeFrame : NetworkMagic → Frame → List ℕ → Written
 writeFrame net f o =
-    choose (leb (length (f .payload)) 8000000)
-    (choose (leb (length (encode net f)) (length o))
-    (record { answer = E.Written (length (encode net f)); output = splice o 0 (encode net f) })
-    (record { answer = E.Refused (outputShort (length (encode net f))); output = o }))
+    choose (leb (length (f .payload)) maxPayload)
+    (choose (leb (length (encoding net f)) (length o))
+    (record { answer = E.Written (length (encoding net f)); output = splice o 0 (encoding net f) })
+    (record { answer = E.Refused (outputShort (length (encoding net f))); output = o }))
     (record { answer = E.Refused (payloadTooLarge (length (f .payload))); output = o })

@@ -2,4 +2,5 @@ pub mod Frame
 pub mod Walk
 pub mod Push
 pub mod Answers
-pub mod Stream
+pub mod Conditions
+pub mod Helpers

@@ -4,6 +4,7 @@ use mathlib.Core.List.{List, _++_}
 use lib.ListN.{length, take}
 use lib.Dec.{leb}
 use Rattle.hns_refusals.specs.declared.Refusal.{Refusal}
+use Rattle.hns_refusals.specs.Limits.{maxStream}
 use Rattle.hns_refusals.specs.Refusals.{streamTooLarge, outputShort, storeShort, heldOver}
 use Rattle.hns_encoding.specs.Bytes.{choose}
 use Rattle.hns_encoding.specs.Put.{splice}
@@ -18,17 +19,17 @@ pub record Result : Type 0 where
   pub store : List ℕ
   pub output : List ℕ
 
--- 'Value a of these is held plus input, or 2^64 - 1 where that is more'
+-- value a of 6, 17 and 16: held and input together, at most 2^64 - 1
 abbrev pub needed : ℕ → List ℕ → ℕ
 needed h x = min (h + length x) (2 ^ 64 - 1)
 
--- 'a push refused by 18, 6, 17 or 16 answers the held count it was given'; no byte changes
+-- refused before the append: the held count is the one given, and no byte changes
 abbrev pub turnedAway : Refusal → List ℕ → ℕ → List ℕ → Result
 turnedAway r s h o = record { answer = Refused r h; store = s; output = o }
 
--- once the input is appended: s is the store with it, and h counts it (`splice s 0 x` is s with x at its front).
--- 'An accepted push copies the encodings of its frames to the output's front, answers their number and total length, and moves the remaining bytes to the store's front. Its held count is theirs'
--- 'a bad header gives 4 before 5, appended bytes stay, the held count includes them, and nothing is delivered, earlier frames of that push included'
+-- Once the input is appended; s is the store with it, and h counts it. `splice s 0 x` is s with x at its front.
+-- Accepted: the encodings go to the output's front and the bytes after them to the store's; the answer has the frames' number, their length and how many bytes are held.
+-- A bad header: its refusal (4 or 5). What was appended stays and is held, and no frame is delivered, not even those before the header.
 unfoldable pub settled : NetworkMagic → Walked → List ℕ → ℕ → List ℕ → Result
 settled net (stopped fs rest) s h o =
     record {
@@ -38,16 +39,20 @@ settled net (stopped fs rest) s h o =
     }
 settled net (refused r) s h o = record { answer = Refused r h; store = s; output = o }
 
--- a push of the input x with the output o to a stream whose store is s and whose held count is h.
--- 'Tests in order: 18, 6, 17, 16 (output shorter than held plus input)'. 'Then the input is appended at the held count and the frames are walked'
-unfoldable pub push : NetworkMagic → List ℕ → ℕ → List ℕ → List ℕ → Result
-push net s h x o =
+-- the tests before the append, in their order 18, 6, 17, 16, and the result p of a push that meets none
+unfoldable pub admitted : List ℕ → ℕ → List ℕ → List ℕ → Result → Result
+admitted s h x o p =
     choose (leb h (length s))
-    (choose (leb (h + length x) 16000018)
+    (choose (leb (h + length x) maxStream)
     (choose (leb (h + length x) (length s))
     (choose (leb (h + length x) (length o))
-    (settled net (walk net (take h s ++ x)) (splice s h x) (h + length x) o)
+    p
     (turnedAway (outputShort (needed h x)) s h o))
     (turnedAway (storeShort (needed h x)) s h o))
     (turnedAway (streamTooLarge (needed h x)) s h o))
     (turnedAway (heldOver h) s h o)
+
+-- A push of the input x, with the output o, to a stream whose store is s and whose held count is h: held bytes and input are walked together.
+unfoldable pub push : NetworkMagic → List ℕ → ℕ → List ℕ → List ℕ → Result
+push net s h x o =
+    admitted s h x o (settled net (walk net (take h s ++ x)) (splice s h x) (h + length x) o)

@@ -8,8 +8,9 @@ ghost use Rattle.hns_encoding.specs.Bytes.{le, part};
 ghost use Rattle.hns_encoding.specs.Put.{splice};
 ghost use Rattle.hns_p2p_frame.specs.Frame.{magic, same, missing, front, payloadOf, decodeExact, writeFrame};
 ghost use Rattle.hns_p2p_frame.specs.Walk.{walk};
-ghost use Rattle.hns_p2p_frame.specs.Push.{settled, push};
-ghost use Rattle.hns_p2p_frame.specs.Answers.{prefixOf, exactOf, walkOf};
+ghost use Rattle.hns_p2p_frame.specs.Push as Push;
+ghost use Rattle.hns_p2p_frame.specs.Answers.{prefixOf, exactOf};
+ghost use Rattle.hns_p2p_frame.specs.Helpers.{walkOf};
 
 pub enum NetworkMagic {
     Mainnet,
@@ -60,7 +61,7 @@ impl NetworkMagic {
 pub enum Prefix {
     NotYet,
     Frame {
-        kind: u8,
+        packet_type: u8,
         length: usize,
         taken: usize,
     },
@@ -69,7 +70,7 @@ pub enum Prefix {
 
 // A slice that is one frame.
 pub enum Exact {
-    Frame { kind: u8, length: usize },
+    Frame { packet_type: u8, length: usize },
     Refused(Refusal),
 }
 
@@ -127,9 +128,9 @@ fn prefix_with(network: NetworkMagic, expected: [u8; 4], input: &[u8]) -> Prefix
     if input.len() < taken {
         return Prefix::NotYet;
     }
-    let kind = input[4];
+    let packet_type = input[4];
     Prefix::Frame {
-        kind,
+        packet_type,
         length,
         taken,
     }
@@ -150,7 +151,7 @@ pub fn payload(network: NetworkMagic, input: &[u8]) -> &[u8]
         Prefix::NotYet => &input[..0],
         Prefix::Refused(_) => &input[..0],
         Prefix::Frame {
-            kind: _,
+            packet_type: _,
             length: _,
             taken,
         } => &input[start..taken],
@@ -178,21 +179,24 @@ pub fn decode_exact(network: NetworkMagic, input: &[u8]) -> Exact
         }
         Prefix::Refused(why) => Exact::Refused(why),
         Prefix::Frame {
-            kind,
+            packet_type,
             length,
             taken,
         } => {
             if taken < input.len() {
                 return Exact::Refused(Refusal::trailing_bytes(input.len() - taken));
             }
-            Exact::Frame { kind, length }
+            Exact::Frame {
+                packet_type,
+                length,
+            }
         }
     }
 }
 
-pub fn encode(network: NetworkMagic, kind: u8, payload: &[u8], out: &mut [u8]) -> Encoded
-    ensures { λ r. ⌜ r ≡ writeFrame network (record { kind = kind; payload = now (payload .entry) }) (now (out .entry)) .answer ⌝ }
-    ensures { λ _. ⌜ now (out .exit) ≡ writeFrame network (record { kind = kind; payload = now (payload .entry) }) (now (out .entry)) .output ⌝ }
+pub fn encode(network: NetworkMagic, packet_type: u8, payload: &[u8], out: &mut [u8]) -> Encoded
+    ensures { λ r. ⌜ r ≡ writeFrame network (record { packetType = «packet_type»; payload = now (payload .entry) }) (now (out .entry)) .answer ⌝ }
+    ensures { λ _. ⌜ now (out .exit) ≡ writeFrame network (record { packetType = «packet_type»; payload = now (payload .entry) }) (now (out .entry)) .output ⌝ }
 {
     let length = payload.len();
     if NetworkMagic::MAX_FRAME_PAYLOAD_SIZE < length {
@@ -204,7 +208,7 @@ pub fn encode(network: NetworkMagic, kind: u8, payload: &[u8], out: &mut [u8]) -
     }
     let magic = network.as_bytes();
     let begun = Encoder::new().put_bytes(out, &magic);
-    let typed = begun.put_u8(out, kind);
+    let typed = begun.put_u8(out, packet_type);
     let counted = typed.put_u32_le(out, length as u32);
     counted.put_bytes(out, payload);
     Encoded::Written(total)
@@ -221,7 +225,7 @@ fn walk_frames(network: NetworkMagic, input: &[u8]) -> Walk
             Prefix::NotYet => return Walk::Stopped { frames, bytes: at },
             Prefix::Refused(why) => return Walk::Refused(why),
             Prefix::Frame {
-                kind: _,
+                packet_type: _,
                 length: _,
                 taken,
             } => {
@@ -259,9 +263,9 @@ fn deliver(store: &mut [u8], bytes: usize, left: usize, output: &mut [u8])
 // What is left to do once the input is appended: the first `total` bytes are walked.
 fn settle(network: NetworkMagic, store: &mut [u8], total: usize, output: &mut [u8]) -> Pushed
     requires { ⌜ (total ≤ length (now store)) × (total ≤ length (now output)) ⌝ }
-    ensures { λ r. ⌜ r ≡ settled network (walk network (take total (now (store .entry)))) (now (store .entry)) total (now (output .entry)) .answer ⌝ }
-    ensures { λ _. ⌜ now (store .exit) ≡ settled network (walk network (take total (now (store .entry)))) (now (store .entry)) total (now (output .entry)) .store ⌝ }
-    ensures { λ _. ⌜ now (output .exit) ≡ settled network (walk network (take total (now (store .entry)))) (now (store .entry)) total (now (output .entry)) .output ⌝ }
+    ensures { λ r. ⌜ r ≡ Push.settled network (walk network (take total (now (store .entry)))) (now (store .entry)) total (now (output .entry)) .answer ⌝ }
+    ensures { λ _. ⌜ now (store .exit) ≡ Push.settled network (walk network (take total (now (store .entry)))) (now (store .entry)) total (now (output .entry)) .store ⌝ }
+    ensures { λ _. ⌜ now (output .exit) ≡ Push.settled network (walk network (take total (now (store .entry)))) (now (store .entry)) total (now (output .entry)) .output ⌝ }
 {
     match walk_frames(network, &store[..total]) {
         Walk::Refused(why) => Pushed::Refused {
@@ -288,9 +292,9 @@ pub fn push(
     input: &[u8],
     output: &mut [u8],
 ) -> Pushed
-    ensures { λ r. ⌜ r ≡ push network (now (store .entry)) held (now (input .entry)) (now (output .entry)) .answer ⌝ }
-    ensures { λ _. ⌜ now (store .exit) ≡ push network (now (store .entry)) held (now (input .entry)) (now (output .entry)) .store ⌝ }
-    ensures { λ _. ⌜ now (output .exit) ≡ push network (now (store .entry)) held (now (input .entry)) (now (output .entry)) .output ⌝ }
+    ensures { λ r. ⌜ r ≡ Push.push network (now (store .entry)) held (now (input .entry)) (now (output .entry)) .answer ⌝ }
+    ensures { λ _. ⌜ now (store .exit) ≡ Push.push network (now (store .entry)) held (now (input .entry)) (now (output .entry)) .store ⌝ }
+    ensures { λ _. ⌜ now (output .exit) ≡ Push.push network (now (store .entry)) held (now (input .entry)) (now (output .entry)) .output ⌝ }
 {
     if store.len() < held {
         let refusal = Refusal::held_over(held);

@@ -1,6 +1,7 @@
 -- Document 01, 'Refusals with an input each': the table, a definition for each row. A value that a row does not name is 0.
 use Prim.Native.Nat.{ℕ}
 use Rattle.hns_refusals.specs.declared.Refusal.{Refusal}
+use Rattle.hns_refusals.specs.Limits.{maxPayload, maxStream, maxIndexes}
 
 abbrev pub refusal : ℕ → ℕ → ℕ → ℕ → Refusal
 refusal number a b c = record { number = number; a = a; b = b; c = c }
@@ -21,13 +22,13 @@ trailingBytes remaining = refusal 3 remaining 0 0
 abbrev pub magicMismatch : ℕ → ℕ → Refusal
 magicMismatch expected found = refusal 4 expected found 0
 
--- 5: payload over 8,000,000; a its length, b the limit
+-- 5: payload over its limit; a its length, b the limit
 abbrev pub payloadTooLarge : ℕ → Refusal
-payloadTooLarge actual = refusal 5 actual 8000000 0
+payloadTooLarge actual = refusal 5 actual maxPayload 0
 
--- 6: held + input over 16,000,018; a the sum, b the limit
+-- 6: held + input over the stream's limit; a the sum, b the limit
 abbrev pub streamTooLarge : ℕ → Refusal
-streamTooLarge total = refusal 6 total 16000018 0
+streamTooLarge total = refusal 6 total maxStream 0
 
 -- 7: count, index or text over its limit; a the value, b the limit, c the field code
 abbrev pub overLimit : ℕ → ℕ → ℕ → Refusal
@@ -49,9 +50,9 @@ notAscii field = refusal 10 0 0 field
 abbrev pub hashPresence : Refusal
 hashPresence = refusal 11 0 0 0
 
--- 12: over 16,662 indexes to write; a how many, b the limit
+-- 12: too many indexes to write; a how many, b the limit
 abbrev pub tooManyIndexes : ℕ → Refusal
-tooManyIndexes actual = refusal 12 actual 16662 0
+tooManyIndexes actual = refusal 12 actual maxIndexes 0
 
 -- 13: index to write over 65,535; a its place
 abbrev pub indexTooLarge : ℕ → Refusal

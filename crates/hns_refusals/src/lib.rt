@@ -1,6 +1,6 @@
 // Document 01's table of refusals: one type for the whole repository, and a constructor for each row that the code gives.
 ghost use mathlib.Core.Path.{_≡_};
-ghost use Rattle.hns_refusals.specs.Refusals.{unexpectedEnd, notShortest, trailingBytes, magicMismatch, payloadTooLarge, streamTooLarge, overLimit, incompleteFrame, headerLength, outputShort, storeShort, heldOver};
+ghost use Rattle.hns_refusals.specs.Refusals.{unexpectedEnd, notShortest, trailingBytes, magicMismatch, payloadTooLarge, streamTooLarge, overLimit, incompleteFrame, indexOver, notAscii, hashPresence, tooManyIndexes, indexTooLarge, notRising, headerLength, outputShort, storeShort, heldOver, noItem};
 
 // A refusal as document 01's table has it: its number and its values, 0 where unnamed.
 pub struct Refusal {
@@ -27,6 +27,18 @@ impl Refusal {
 
     pub const INCOMPLETE_FRAME: u64 = 8;
 
+    pub const INDEX_OVER: u64 = 9;
+
+    pub const NOT_ASCII: u64 = 10;
+
+    pub const HASH_PRESENCE: u64 = 11;
+
+    pub const TOO_MANY_INDEXES: u64 = 12;
+
+    pub const INDEX_TOO_LARGE: u64 = 13;
+
+    pub const NOT_RISING: u64 = 14;
+
     pub const HEADER_LENGTH: u64 = 15;
 
     pub const OUTPUT_SHORT: u64 = 16;
@@ -34,6 +46,8 @@ impl Refusal {
     pub const STORE_SHORT: u64 = 17;
 
     pub const HELD_OVER: u64 = 18;
+
+    pub const NO_ITEM: u64 = 19;
 
     // The bytes end in a field that begins at `offset`.
     pub fn unexpected_end(offset: usize, missing: usize) -> Refusal
@@ -131,6 +145,78 @@ impl Refusal {
         }
     }
 
+    // An index that is read passes 65,535.
+    pub fn index_over() -> Refusal
+        ensures { λ r. ⌜ r ≡ indexOver ⌝ }
+    {
+        Refusal {
+            number: Refusal::INDEX_OVER,
+            a: 0,
+            b: 0,
+            c: 0,
+        }
+    }
+
+    // A text to write with a byte over 127.
+    pub fn not_ascii(field: u64) -> Refusal
+        ensures { λ r. ⌜ r ≡ notAscii field ⌝ }
+    {
+        Refusal {
+            number: Refusal::NOT_ASCII,
+            a: 0,
+            b: 0,
+            c: field,
+        }
+    }
+
+    // A reject to write with a hash where its type has none, or without where it has one.
+    pub fn hash_presence() -> Refusal
+        ensures { λ r. ⌜ r ≡ hashPresence ⌝ }
+    {
+        Refusal {
+            number: Refusal::HASH_PRESENCE,
+            a: 0,
+            b: 0,
+            c: 0,
+        }
+    }
+
+    // Too many indexes to write.
+    pub fn too_many_indexes(actual: usize) -> Refusal
+        ensures { λ r. ⌜ r ≡ tooManyIndexes actual ⌝ }
+    {
+        Refusal {
+            number: Refusal::TOO_MANY_INDEXES,
+            a: actual as u64,
+            b: 16_662,
+            c: 0,
+        }
+    }
+
+    // An index to write that passes 65,535.
+    pub fn index_too_large(place: usize) -> Refusal
+        ensures { λ r. ⌜ r ≡ indexTooLarge place ⌝ }
+    {
+        Refusal {
+            number: Refusal::INDEX_TOO_LARGE,
+            a: place as u64,
+            b: 0,
+            c: 0,
+        }
+    }
+
+    // An index to write that is not above the one before.
+    pub fn not_rising(place: usize) -> Refusal
+        ensures { λ r. ⌜ r ≡ notRising place ⌝ }
+    {
+        Refusal {
+            number: Refusal::NOT_RISING,
+            a: place as u64,
+            b: 0,
+            c: 0,
+        }
+    }
+
     // A header that is not 236 bytes.
     pub fn header_length(actual: usize) -> Refusal
         ensures { λ r. ⌜ r ≡ headerLength actual ⌝ }
@@ -174,6 +260,18 @@ impl Refusal {
         Refusal {
             number: Refusal::HELD_OVER,
             a: held as u64,
+            b: 0,
+            c: 0,
+        }
+    }
+
+    // An item asked for at a place that the list does not have.
+    pub fn no_item() -> Refusal
+        ensures { λ r. ⌜ r ≡ noItem ⌝ }
+    {
+        Refusal {
+            number: Refusal::NO_ITEM,
+            a: 0,
             b: 0,
             c: 0,
         }

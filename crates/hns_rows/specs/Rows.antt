@@ -67,12 +67,12 @@ headerRow (A.Refused r) h = refusedRow r 0
 -- 0 for not yet; 1 with the type, the payload's length and the bytes taken
 unfoldable pub prefixRow : Prefix → List ℕ
 prefixRow P.NotYet = row 0 0 0 0 0
-prefixRow (P.Frame kind length taken) = row 1 kind length taken 0
+prefixRow (P.Frame packetType length taken) = row 1 packetType length taken 0
 prefixRow (P.Refused r) = refusedRow r 0
 
 -- the type and the payload's length
 unfoldable pub exactRow : Exact → List ℕ
-exactRow (X.Frame kind length) = row kind length 0 0 0
+exactRow (X.Frame packetType length) = row packetType length 0 0 0
 exactRow (X.Refused r) = refusedRow r 0
 
 -- the length of the encoding

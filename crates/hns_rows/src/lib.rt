@@ -29,7 +29,7 @@ fn copy(answer: &mut [u64], values: [u64; 6], n: usize)
 }
 
 // A row into the caller's numbers: as many as fit. A whole row is copied by a known number, which the compiler writes out.
-pub fn store(answer: &mut [u64], values: [u64; 6])
+pub fn put_row(answer: &mut [u64], values: [u64; 6])
     ensures { λ _. ⌜ now (answer .exit) ≡ answered (now (answer .entry)) values ⌝ }
 {
     let room = answer.len();
@@ -108,10 +108,10 @@ pub fn of_prefix(prefix: Prefix) -> [u64; 6]
     match prefix {
         Prefix::NotYet => [0; 6],
         Prefix::Frame {
-            kind,
+            packet_type,
             length,
             taken,
-        } => [0, 1, kind as u64, length as u64, taken as u64, 0],
+        } => [0, 1, packet_type as u64, length as u64, taken as u64, 0],
         Prefix::Refused(refusal) => of_refusal(refusal, 0),
     }
 }
@@ -120,7 +120,10 @@ pub fn of_exact(exact: Exact) -> [u64; 6]
     ensures { λ r. ⌜ r ≡ exactRow exact ⌝ }
 {
     match exact {
-        Exact::Frame { kind, length } => [0, kind as u64, length as u64, 0, 0, 0],
+        Exact::Frame {
+            packet_type,
+            length,
+        } => [0, packet_type as u64, length as u64, 0, 0, 0],
         Exact::Refused(refusal) => of_refusal(refusal, 0),
     }
 }

@@ -15,7 +15,7 @@ fn hex(bytes: &[u8]) {
     let mut digits = [0u8; 512];
     let e = survey_export::put_hex(Encoder::new(), &mut digits, bytes);
     text(b" ");
-    text(survey_export::first(&digits, e.position));
+    text(hns_encoding::first(&digits, e.position));
 }
 
 fn number(n: u64) {
@@ -126,7 +126,7 @@ fn push(
     if bytes.len() < a {
         return;
     }
-    hns_ffi::hns_put_bytes(survey_export::first(bytes, a), store, 0);
+    hns_ffi::hns_put_bytes(hns_encoding::first(bytes, a), store, 0);
     hns_ffi::hns_push(network, store, a, &bytes[a..], output, answer);
 }
 
@@ -138,7 +138,7 @@ fn show_push(network: u8, bytes: &[u8], a: usize) {
     push(network, bytes, a, &mut store, &mut output, &mut answer);
     let held = if answer[0] == 0 { answer[3] } else { answer[4] };
     row(answer);
-    hex(survey_export::first(&store, held as usize));
+    hex(hns_encoding::first(&store, held as usize));
     hex(&output);
 }
 
@@ -193,7 +193,7 @@ fn take(case: &mut [u8], n: usize, byte: u8) -> usize
     ensures { λ r. ⌜ r ≤ n + 1 ⌝ }
 {
     if byte == 10 {
-        answer(survey_export::first(case, n / 2));
+        answer(hns_encoding::first(case, n / 2));
         return 0;
     }
     take_digit(case, n, byte);
@@ -213,5 +213,5 @@ fn main() {
     let mut lines = [0u8; 131_072];
     let mut case = [0u8; 1_024];
     let size = io::read_full(0, &mut lines);
-    answers(survey_export::first(&lines, size), &mut case);
+    answers(hns_encoding::first(&lines, size), &mut case);
 }

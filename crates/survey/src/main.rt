@@ -1,18 +1,17 @@
 // Reads a mainnet peer log on standard input and writes its exported survey to standard output.
 //
-// What matters is in survey_export; here are the reads, the writes and what is said where one fails. A survey without
-// its last line does not count, so nothing is put after a failed read but the lines so far, and nothing after a failed
-// write.
-use hns_encoder::Encoder;
+// What decides is in survey_export: a chunk's lines, when the text is written out, the held count and the place onward,
+// the last line. Here are the reads, the writes and what is said where one fails. A survey without its last line does
+// not count, so after a failed read the lines so far are written and nothing more, and after a failed write nothing.
 use libc::STDIN_FILENO;
 use libc::STDOUT_FILENO;
 use survey_export::Step;
 ghost use mathlib.Core.Path.{_≡_};
 ghost use Prim.Native.Nat.{ℕ, _-_, _≤_};
 ghost use lib.ListN.{length};
-
-// The text is written out once it has no room left for the lines of a chunk, which are at most twice the output.
-const FULL: usize = 65_536 - 2 * 24_576;
+ghost use Rattle.survey_export.specs.Survey.{chunkSize, roomSize, textSize};
+ghost use Rattle.survey_export.specs.Program.{begun, Steps};
+ghost use Rattle.survey.specs.Turn.{Leaves};
 
 // What a turn leaves: the held count and where the text goes on; or the end.
 enum After {
@@ -59,51 +58,39 @@ fn fill(chunk: &mut [u8]) -> Filled {
 }
 
 // Writes the first n bytes of the text, and answers whether that went well.
-fn flush(text: &[u8], n: usize) -> bool {
-    if text.len() < n {
-        io::write_all(libc::STDERR_FILENO, b"survey: lines longer than the text\n");
-        return false;
+fn write_out(text: &[u8], n: usize) -> bool {
+    if n == 0 {
+        return true;
     }
-    let written = io::write_all(STDOUT_FILENO, survey_export::first(text, n));
+    let written = io::write_all(STDOUT_FILENO, hns_encoding::first(text, n));
     if !written {
         os::fail(b"survey: standard output");
     }
     written
 }
 
-fn finish(text: &mut [u8], held: usize, position: usize) -> After {
-    let e = survey_export::put_held(Encoder { position }, text, held as u64);
-    flush(text, e.position);
-    After::End
-}
-
-// A chunk that is not full is the last: the log is not read beyond its end, also where it has grown since.
-fn over(after: After, text: &mut [u8]) -> After {
-    match after {
-        After::End => After::End,
-        After::Next { held, position } => finish(text, held, position),
-    }
-}
-
 fn take_bytes(
     store: &mut [u8],
-    chunk: &[u8],
+    bytes: &[u8],
     output: &mut [u8],
     text: &mut [u8],
     held: usize,
     position: usize,
-) -> After {
-    match survey_export::take_chunk(store, held, chunk, output, text, Encoder { position }) {
-        Step::Stop { position } => {
-            flush(text, position);
+) -> After
+    ensures { λ r. ⌜ Leaves (record { store = now (store .entry); held = held; output = now (output .entry); text = now (text .entry); place = position }) r (now (store .exit)) (now (output .exit)) (now (text .exit)) ⌝ }
+{
+    match survey_export::take_chunk(store, held, bytes, output, text, position) {
+        Step::Last { write } => {
+            write_out(text, write);
             After::End
         }
-        Step::Lines { held, position } => {
-            if position <= FULL {
-                return After::Next { held, position };
-            }
-            if flush(text, position) {
-                After::Next { held, position: 0 }
+        Step::Next {
+            held,
+            position,
+            write,
+        } => {
+            if write_out(text, write) {
+                After::Next { held, position }
             } else {
                 After::End
             }
@@ -118,31 +105,27 @@ fn turn(
     text: &mut [u8],
     held: usize,
     position: usize,
-) -> After {
+) -> After
+    ensures { λ r. ⌜ Leaves (record { store = now (store .entry); held = held; output = now (output .entry); text = now (text .entry); place = position }) r (now (store .exit)) (now (output .exit)) (now (text .exit)) ⌝ }
+{
     match fill(chunk) {
         Filled::Failed => {
             os::fail(b"survey: standard input");
-            flush(text, position);
+            write_out(text, position);
             After::End
         }
         Filled::Bytes(n) => {
-            if n == 0 {
-                return finish(text, held, position);
-            }
-            let bytes = survey_export::first(chunk, n);
-            let after = take_bytes(store, bytes, output, text, held, position);
-            if n < chunk.len() {
-                return over(after, text);
-            }
-            after
+            let bytes = hns_encoding::first(chunk, n);
+            take_bytes(store, bytes, output, text, held, position)
         }
     }
 }
 
 // A proved loop has to end, and nothing says that a log does, so the turns are counted down from a number that no log
-// uses up. The sizes are document 01's.
+// uses up. The sizes are those of which the export's theorems speak.
 fn run(store: &mut [u8], chunk: &mut [u8], output: &mut [u8], text: &mut [u8])
-    requires { ⌜ (length (now chunk) ≡ 4096) × ((length (now store) ≡ 24576) × (length (now output) ≡ 24576)) ⌝ }
+    requires { ⌜ (length (now chunk) ≡ chunkSize) × ((length (now store) ≡ roomSize) × ((length (now output) ≡ roomSize) × (length (now text) ≡ textSize))) ⌝ }
+    ensures { λ _. ⌜ Steps (begun (now (store .entry)) (now (output .entry)) (now (text .entry))) (now (store .exit)) (now (output .exit)) (now (text .exit)) ⌝ }
 {
     let mut held: usize = 0;
     let mut position: usize = 0;

@@ -1,5 +1,5 @@
-// Surveys of small logs made here, by the survey program's chunks, store and output: a line for each log, and its
-// export below it; of a long one, how long the export is and its last line. The file stdout has the lines that are right.
+// Surveys of small logs made here, by the survey program's steps and sizes: a line for each log, and its export below it;
+// of a long one, how long the export is and its last line. The file stdout has the lines that are right.
 use hns_encoder::Encoder;
 use hns_p2p_frame::Encoded;
 use hns_p2p_frame::NetworkMagic;
@@ -12,31 +12,46 @@ fn say(text: &[u8]) {
     io::write_all(1, text);
 }
 
-// What a chunk leaves: the held count, where the text goes on, and whether the survey goes on.
+// What a step leaves: the held count, where the text goes on, how much was written, and whether the survey goes on.
 struct Next {
     held: usize,
     position: usize,
+    written: usize,
     going: bool,
 }
 
+// Writes the first n bytes of the text behind what was written before.
+fn write_out(out: &mut [u8], written: usize, text: &[u8], n: usize) -> usize {
+    Encoder { position: written }
+        .put_bytes(out, hns_encoding::first(text, n))
+        .position
+}
+
+// A step of the survey program, whose writes are kept in `out`.
 fn next_chunk(
     store: &mut [u8],
     chunk: &[u8],
     output: &mut [u8],
     text: &mut [u8],
-    held: usize,
-    position: usize,
+    out: &mut [u8],
+    now: Next,
 ) -> Next {
-    match survey_export::take_chunk(store, held, chunk, output, text, Encoder { position }) {
-        Step::Lines { held, position } => Next {
-            held,
-            position,
-            going: true,
-        },
-        Step::Stop { position } => Next {
-            held,
-            position,
+    match survey_export::take_chunk(store, now.held, chunk, output, text, now.position) {
+        Step::Last { write } => Next {
+            held: 0,
+            position: 0,
+            written: write_out(out, now.written, text, write),
             going: false,
+        },
+        Step::Next {
+            held,
+            position,
+            write,
+        } => Next {
+            held,
+            position,
+            written: write_out(out, now.written, text, write),
+            going: true,
         },
     }
 }
@@ -52,31 +67,32 @@ fn chunk_end(length: usize, from: usize) -> usize
     }
 }
 
-// The export of a log: its length in the text.
-fn export(log: &[u8], store: &mut [u8], output: &mut [u8], text: &mut [u8]) -> usize {
+// The export of a log, into `out`: its length. A log of full chunks alone ends with an empty one.
+fn export(
+    log: &[u8],
+    store: &mut [u8],
+    output: &mut [u8],
+    text: &mut [u8],
+    out: &mut [u8],
+) -> usize {
     let mut now = Next {
         held: 0,
         position: 0,
+        written: 0,
         going: true,
     };
     let mut from: usize = 0;
     while from < log.len() {
         let rest = &log[from..];
-        let chunk = survey_export::first(rest, CHUNK);
-        now = next_chunk(store, chunk, output, text, now.held, now.position);
+        let chunk = hns_encoding::first(rest, CHUNK);
+        now = next_chunk(store, chunk, output, text, out, now);
         if !now.going {
-            return now.position;
+            return now.written;
         }
         from = chunk_end(log.len(), from);
     }
-    let e = survey_export::put_held(
-        Encoder {
-            position: now.position,
-        },
-        text,
-        now.held as u64,
-    );
-    e.position
+    now = next_chunk(store, &log[..0], output, text, out, now);
+    now.written
 }
 
 // The place where the last line of a text begins.
@@ -108,10 +124,11 @@ fn survey(name: &[u8], log: &[u8]) {
     let mut store = [0xaau8; 24_576];
     let mut output = [0xaau8; 24_576];
     let mut text = [0u8; 65_536];
+    let mut out = [0u8; 65_536];
     say(name);
     say(b":\n");
-    let n = export(log, &mut store, &mut output, &mut text);
-    show(survey_export::first(&text, n));
+    let n = export(log, &mut store, &mut output, &mut text, &mut out);
+    show(hns_encoding::first(&out, n));
 }
 
 fn begun() {
@@ -164,7 +181,7 @@ fn put_frame(log: &mut [u8], n: usize) -> usize {
     match hns_p2p_frame::encode(
         NetworkMagic::Mainnet,
         2,
-        survey_export::first(&payload, n),
+        hns_encoding::first(&payload, n),
         log,
     ) {
         Encoded::Written(length) => length,
@@ -178,9 +195,9 @@ fn long_frame(name: &[u8], n: usize, after: usize) {
     let size = put_frame(&mut log, n);
     let e = Encoder { position: size }.put_bytes(
         &mut log,
-        survey_export::first(b"\xd3\xf2\x6e\x5b", after),
+        hns_encoding::first(b"\xd3\xf2\x6e\x5b", after),
     );
-    survey(name, survey_export::first(&log, e.position));
+    survey(name, hns_encoding::first(&log, e.position));
 }
 
 fn long_frames() {

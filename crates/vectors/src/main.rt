@@ -22,7 +22,7 @@ fn hex(bytes: &[u8]) {
     let mut digits = [0u8; 512];
     let e = survey_export::put_hex(Encoder::new(), &mut digits, bytes);
     text(b" ");
-    text(survey_export::first(&digits, e.position));
+    text(hns_encoding::first(&digits, e.position));
 }
 
 fn refused(r: Refusal) {

@@ -32,12 +32,12 @@ fn parts(frame: &Frame) -> (u8, &[u8]) {
 }
 
 pub fn encode(case: &Case) -> Verdict {
-    let (kind, room) = (case.number(0) as u8, case.number(1) as usize);
+    let (packet_type, room) = (case.number(0) as u8, case.number(1) as usize);
     let mut out = filled(room);
     let mut expected = out.clone();
-    let port = hns_port::encode(NETWORKS[case.network], kind, &case.bytes, &mut out);
+    let port = hns_port::encode(NETWORKS[case.network], packet_type, &case.bytes, &mut out);
     let frame = Frame {
-        packet_type: PacketType::from_u8(kind),
+        packet_type: PacketType::from_u8(packet_type),
         payload: case.bytes.clone(),
     };
     let rust = frame

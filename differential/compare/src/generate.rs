@@ -217,7 +217,7 @@ fn header(rng: &mut Rng, kind: Kind) -> Case {
     Case::new(kind, bytes, &[at, room])
 }
 
-fn kind_byte(rng: &mut Rng) -> u8 {
+fn type_byte(rng: &mut Rng) -> u8 {
     if rng.one_in(3) {
         rng.next() as u8
     } else {
@@ -236,13 +236,13 @@ fn payload_length(rng: &mut Rng) -> usize {
 }
 
 /// A header that says a length.
-fn said(network: usize, kind: u8, length: u32) -> Vec<u8> {
+fn said(network: usize, packet_type: u8, length: u32) -> Vec<u8> {
     let magic = crate::rust::NETWORKS[network].as_u32().to_le_bytes();
-    [&magic[..], &[kind], &length.to_le_bytes()].concat()
+    [&magic[..], &[packet_type], &length.to_le_bytes()].concat()
 }
 
 pub fn frame(rng: &mut Rng, network: usize, length: usize) -> Vec<u8> {
-    let mut bytes = said(network, kind_byte(rng), length as u32);
+    let mut bytes = said(network, type_byte(rng), length as u32);
     bytes.extend_from_slice(&rng.bytes(length));
     bytes
 }
@@ -288,7 +288,7 @@ fn written(rng: &mut Rng) -> Case {
         1 => rng.index(9 + n),
         _ => 9 + n + rng.index(20),
     };
-    let numbers = [kind_byte(rng).into(), room as u64];
+    let numbers = [type_byte(rng).into(), room as u64];
     Case::new(Kind::FrameEncode, bytes, &numbers).on(rng.index(NETWORKS.len()))
 }
 
@@ -310,7 +310,7 @@ fn stream(rng: &mut Rng) -> Case {
     }
     if rng.one_in(6) {
         let length = rng.pick(&LENGTHS);
-        bytes.extend_from_slice(&said(network, kind_byte(rng), length));
+        bytes.extend_from_slice(&said(network, type_byte(rng), length));
         let more = rng.index(30);
         bytes.extend_from_slice(&rng.bytes(more));
     }

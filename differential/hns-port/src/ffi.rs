@@ -152,7 +152,7 @@ unsafe extern "C" {
     );
     pub fn hns_encode_frame(
         network: u8,
-        kind: u8,
+        packet_type: u8,
         payload: *const u8,
         payload_len: usize,
         out: *mut u8,
@@ -162,8 +162,8 @@ unsafe extern "C" {
     );
     pub fn hns_push(
         network: u8,
-        buffer: *mut u8,
-        buffer_len: usize,
+        store: *mut u8,
+        store_len: usize,
         held: usize,
         input: *const u8,
         input_len: usize,

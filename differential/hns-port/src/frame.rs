@@ -47,9 +47,9 @@ pub fn decode_exact(network: NetworkMagic, input: &[u8]) -> Result<Frame<'_>, Re
 }
 
 #[inline]
-fn frame(input: &[u8], kind: u64, length: u64) -> Frame<'_> {
+fn frame(input: &[u8], packet_type: u64, length: u64) -> Frame<'_> {
     Frame {
-        packet_type: kind as u8,
+        packet_type: packet_type as u8,
         payload: &input[FRAME_HEADER_SIZE..][..length as usize],
     }
 }

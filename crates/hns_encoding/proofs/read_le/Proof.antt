@@ -1,3 +1,6 @@
+use Prim.Native.Nat.{ℕ, _-_}
+use mathlib.Core.Path.{ap, _∙_}
+use Rattle.hns_refusals.specs.Refusals.{unexpectedEnd}
 use borrow.Author.Needs.{needs}
 use native.Mathlib.Omega.{arith}
 use Rattle.hns_encoding.proofs.Reading.{le-fits, le-short}
@@ -20,7 +23,9 @@ returns : tie.Need-returns
 returns c = le-fits _ _ _ (omega arith) _ (c .before .before .before .pre)
 
 returns-2 : tie.Need-returns-2
-returns-2 c = le-short _ _ _ (omega arith) (cc)
+returns-2 c =
+    let a = c .before .before .before .before .args in
+    le-short _ _ _ (omega arith) (c .unexpected-end .ensures ∙ ap (λ (m : ℕ). unexpectedEnd (a .position) (a .n - m)) (c .before .before .remaining .ensures))
 
 pub read-le-spec : {M : Type 1} → statement M
 read-le-spec =

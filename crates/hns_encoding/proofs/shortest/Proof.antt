@@ -1,7 +1,7 @@
 use borrow.Author.Needs.{needs}
 use Rattle.hns_encoding.specs.declared.Number.the-variants.{Refused}
 use mathlib.Core.Path.{ap}
-use Rattle.hns_encoding.specs.Answers.{shortestOf}
+use Rattle.hns_encoding.specs.Helpers.{shortestOf}
 use borrow.Author.Tests.{le-leb, lt-leb}
 use Rattle.hns_encoding.proofs.shortest.Statement.{statement}
 use Rattle.hns_encoding.proofs.shortest.Tie as tie

@@ -1,3 +1,5 @@
+use mathlib.Core.Path.{refl}
+use Rattle.hns_header_consensus.proofs.Headers.{same-header}
 use borrow.Author.Needs.{needs}
 use Rattle.hns_ffi.proofs.header_from.Statement.{statement}
 use Rattle.hns_ffi.proofs.header_from.Tie as tie
@@ -24,7 +26,19 @@ array32-at-requires-6 : tie.Need-array32-at-requires-6
 array32-at-requires-6 c κs = search needs
 
 returns : tie.Need-returns
-returns c = rw (c .before .before .before .before .before .before .array32-at .ensures, c .before .before .before .before .before .array32-at2 .ensures, c .before .before .before .before .array24-at .ensures, c .before .before .before .array32-at3 .ensures, c .before .before .array32-at4 .ensures, c .before .array32-at5 .ensures, c .array32-at6 .ensures)
+returns c =
+    same-header
+    refl
+    refl
+    (c .before .before .before .before .before .before .array32-at .ensures)
+    (c .before .before .before .before .before .array32-at2 .ensures)
+    (c .before .before .before .before .array24-at .ensures)
+    (c .before .before .before .array32-at3 .ensures)
+    (c .before .before .array32-at4 .ensures)
+    (c .before .array32-at5 .ensures)
+    refl
+    refl
+    (c .array32-at6 .ensures)
 
 pub header-from-spec : {M : Type 1} → statement M
 header-from-spec =

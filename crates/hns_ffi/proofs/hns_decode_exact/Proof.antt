@@ -13,14 +13,14 @@ decode-exact-requires c κs = search needs
 of-exact-requires : tie.Need-of-exact-requires
 of-exact-requires c κs = search needs
 
-store-requires : tie.Need-store-requires
-store-requires c κs = search needs
+put-row-requires : tie.Need-put-row-requires
+put-row-requires c κs = search needs
 
 same-length : tie.Need-same-length
 same-length c = search needs
 
 returns : tie.Need-returns
-returns c = stored exactRow _ (c .before .before .store .ensures) (c .before .before .before .of-exact .ensures) (rw (c .before .before .before .before .before .before .network-of .ensures) at (c .before .before .before .before .before .decode-exact .ensures))
+returns c = stored exactRow _ (c .before .before .put-row .ensures) (c .before .before .before .of-exact .ensures) (rw (c .before .before .before .before .before .before .network-of .ensures) at (c .before .before .before .before .before .decode-exact .ensures))
 
 pub hns-decode-exact-spec : {M : Type 1} → statement M
 hns-decode-exact-spec =
@@ -29,6 +29,6 @@ hns-decode-exact-spec =
     network-of-requires
     decode-exact-requires
     of-exact-requires
-    store-requires
+    put-row-requires
     same-length
     returns)

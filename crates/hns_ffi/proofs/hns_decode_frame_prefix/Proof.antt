@@ -13,14 +13,14 @@ decode-frame-prefix-requires c κs = search needs
 of-prefix-requires : tie.Need-of-prefix-requires
 of-prefix-requires c κs = search needs
 
-store-requires : tie.Need-store-requires
-store-requires c κs = search needs
+put-row-requires : tie.Need-put-row-requires
+put-row-requires c κs = search needs
 
 same-length : tie.Need-same-length
 same-length c = search needs
 
 returns : tie.Need-returns
-returns c = stored prefixRow _ (c .before .before .store .ensures) (c .before .before .before .of-prefix .ensures) (rw (c .before .before .before .before .before .before .network-of .ensures) at (c .before .before .before .before .before .decode-frame-prefix .ensures))
+returns c = stored prefixRow _ (c .before .before .put-row .ensures) (c .before .before .before .of-prefix .ensures) (rw (c .before .before .before .before .before .before .network-of .ensures) at (c .before .before .before .before .before .decode-frame-prefix .ensures))
 
 pub hns-decode-frame-prefix-spec : {M : Type 1} → statement M
 hns-decode-frame-prefix-spec =
@@ -29,6 +29,6 @@ hns-decode-frame-prefix-spec =
     network-of-requires
     decode-frame-prefix-requires
     of-prefix-requires
-    store-requires
+    put-row-requires
     same-length
     returns)

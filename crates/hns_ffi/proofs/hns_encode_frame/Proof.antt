@@ -13,8 +13,8 @@ encode-requires c κs = search needs
 of-encoded-requires : tie.Need-of-encoded-requires
 of-encoded-requires c κs = search needs
 
-store-requires : tie.Need-store-requires
-store-requires c κs = search needs
+put-row-requires : tie.Need-put-row-requires
+put-row-requires c κs = search needs
 
 same-length : tie.Need-same-length
 same-length c = search needs
@@ -26,7 +26,7 @@ returns : tie.Need-returns
 returns c =
     let p = c .before .before .before .before .before .before .before in
     let net = p .before .before .network-of .ensures in
-    (stored encodedRow _ (c .before .before .store .ensures) (c .before .before .before .of-encoded .ensures) (rw (net) at (p .encode .ensures .0)), rw net at (p .encode .ensures .1))
+    (stored encodedRow _ (c .before .before .put-row .ensures) (c .before .before .before .of-encoded .ensures) (rw (net) at (p .encode .ensures .0)), rw net at (p .encode .ensures .1))
 
 pub hns-encode-frame-spec : {M : Type 1} → statement M
 hns-encode-frame-spec =
@@ -35,7 +35,7 @@ hns-encode-frame-spec =
     network-of-requires
     encode-requires
     of-encoded-requires
-    store-requires
+    put-row-requires
     same-length
     same-length-2
     returns)

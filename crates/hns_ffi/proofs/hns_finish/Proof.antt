@@ -10,15 +10,15 @@ finish-requires c κs = search needs
 of-finished-requires : tie.Need-of-finished-requires
 of-finished-requires c κs = search needs
 
-store-requires : tie.Need-store-requires
-store-requires c κs = search needs
+put-row-requires : tie.Need-put-row-requires
+put-row-requires c κs = search needs
 
 same-length : tie.Need-same-length
 same-length c = search needs
 
 returns : tie.Need-returns
-returns c = stored finishedRow _ (c .before .before .store .ensures) (c .before .before .before .of-finished .ensures) (c .before .before .before .before .finish .ensures)
+returns c = stored finishedRow _ (c .before .before .put-row .ensures) (c .before .before .before .of-finished .ensures) (c .before .before .before .before .finish .ensures)
 
 pub hns-finish-spec : {M : Type 1} → statement M
 hns-finish-spec =
-    tie.close (tie.spec finish-requires of-finished-requires store-requires same-length returns)
+    tie.close (tie.spec finish-requires of-finished-requires put-row-requires same-length returns)

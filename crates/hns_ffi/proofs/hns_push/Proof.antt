@@ -13,8 +13,8 @@ push-requires c κs = search needs
 of-pushed-requires : tie.Need-of-pushed-requires
 of-pushed-requires c κs = search needs
 
-store-requires : tie.Need-store-requires
-store-requires c κs = search needs
+put-row-requires : tie.Need-put-row-requires
+put-row-requires c κs = search needs
 
 same-length : tie.Need-same-length
 same-length c = search needs
@@ -29,7 +29,7 @@ returns : tie.Need-returns
 returns c =
     let p = c .before .before .before .before .before .before .before .before .before in
     let net = p .before .before .before .network-of .ensures in
-    (stored pushedRow _ (c .before .before .store .ensures) (c .before .before .before .of-pushed .ensures) (rw (net) at (p .push .ensures .0)), (rw net at (p .push .ensures .1 .0), rw net at (p .push .ensures .1 .1)))
+    (stored pushedRow _ (c .before .before .put-row .ensures) (c .before .before .before .of-pushed .ensures) (rw (net) at (p .push .ensures .0)), (rw net at (p .push .ensures .1 .0), rw net at (p .push .ensures .1 .1)))
 
 pub hns-push-spec : {M : Type 1} → statement M
 hns-push-spec =
@@ -38,7 +38,7 @@ hns-push-spec =
     network-of-requires
     push-requires
     of-pushed-requires
-    store-requires
+    put-row-requires
     same-length
     same-length-2
     same-length-3

@@ -10,15 +10,15 @@ read-bounded-requires c κs = search needs
 of-slice-requires : tie.Need-of-slice-requires
 of-slice-requires c κs = search needs
 
-store-requires : tie.Need-store-requires
-store-requires c κs = search needs
+put-row-requires : tie.Need-put-row-requires
+put-row-requires c κs = search needs
 
 same-length : tie.Need-same-length
 same-length c = search needs
 
 returns : tie.Need-returns
-returns c = stored sliceRow _ (c .before .before .store .ensures) (c .before .before .before .of-slice .ensures) (c .before .before .before .before .read-bounded .ensures)
+returns c = stored sliceRow _ (c .before .before .put-row .ensures) (c .before .before .before .of-slice .ensures) (c .before .before .before .before .read-bounded .ensures)
 
 pub hns-read-bounded-spec : {M : Type 1} → statement M
 hns-read-bounded-spec =
-    tie.close (tie.spec read-bounded-requires of-slice-requires store-requires same-length returns)
+    tie.close (tie.spec read-bounded-requires of-slice-requires put-row-requires same-length returns)

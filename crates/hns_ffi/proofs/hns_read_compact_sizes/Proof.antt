@@ -10,8 +10,8 @@ read-compact-sizes-requires c κs = search needs
 of-sizes-requires : tie.Need-of-sizes-requires
 of-sizes-requires c κs = search needs
 
-store-requires : tie.Need-store-requires
-store-requires c κs = search needs
+put-row-requires : tie.Need-put-row-requires
+put-row-requires c κs = search needs
 
 same-length : tie.Need-same-length
 same-length c = search needs
@@ -22,7 +22,7 @@ same-length-2 c = search needs
 returns : tie.Need-returns
 returns c =
     let read = c .before .before .before .before .before .before .before .read-compact-sizes .ensures in
-    (stored sizesRow _ (c .before .before .store .ensures) (c .before .before .before .of-sizes .ensures) (read .0), read .1)
+    (stored sizesRow _ (c .before .before .put-row .ensures) (c .before .before .before .of-sizes .ensures) (read .0), read .1)
 
 pub hns-read-compact-sizes-spec : {M : Type 1} → statement M
 hns-read-compact-sizes-spec =
@@ -30,7 +30,7 @@ hns-read-compact-sizes-spec =
     (tie.spec
     read-compact-sizes-requires
     of-sizes-requires
-    store-requires
+    put-row-requires
     same-length
     same-length-2
     returns)

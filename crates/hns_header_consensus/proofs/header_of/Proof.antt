@@ -1,8 +1,8 @@
 use borrow.Author.Needs.{needs}
 use Rattle.hns_header_consensus.proofs.Headers.{same-header}
 use mathlib.Core.Path.{_≡_, _∙_}
-use Rattle.hns_encoding.proofs.Reading.{number-there, raw-there}
-use Rattle.hns_encoding.specs.Bytes.{le, part, numberAt, rawAt}
+use Rattle.hns_encoding.proofs.Reading.{raw-there}
+use Rattle.hns_encoding.specs.Bytes.{part, rawAt}
 use lib.Dec.{lit≤}
 use Prim.Native.Nat.{ℕ, _+_, _≤_}
 use native.Mathlib.Omega.{arith}
@@ -45,19 +45,18 @@ array32-at-requires-6 c κs = search needs
 returns : tie.Need-returns
 returns c =
     let s = c .before .before .before .before .before .before .before .before .before .before .before .before .args .block .now in
-    let number : (n p : ℕ) → n + p ≤ 236 → numberAt n s p ≡ le (part s p n) = λ n p h. number-there n s p (omega arith) in
     let bytes : (n p : ℕ) → n + p ≤ 236 → rawAt n s p ≡ part s p n = λ n p h. raw-there n s p (omega arith) in
     same-header
-    (c .before .before .before .before .before .before .before .before .before .before .u32-at .ensures ∙ number 4 0 (lit≤ tt))
-    (c .before .before .before .before .before .before .before .before .before .u64-at .ensures ∙ number 8 4 (lit≤ tt))
+    (c .before .before .before .before .before .before .before .before .before .before .u32-at .ensures)
+    (c .before .before .before .before .before .before .before .before .before .u64-at .ensures)
     (c .before .before .before .before .before .before .before .before .array32-at .ensures ∙ bytes 32 12 (lit≤ tt))
     (c .before .before .before .before .before .before .before .array32-at2 .ensures ∙ bytes 32 44 (lit≤ tt))
     (c .before .before .before .before .before .before .array24-at .ensures ∙ bytes 24 76 (lit≤ tt))
     (c .before .before .before .before .before .array32-at3 .ensures ∙ bytes 32 100 (lit≤ tt))
     (c .before .before .before .before .array32-at4 .ensures ∙ bytes 32 132 (lit≤ tt))
     (c .before .before .before .array32-at5 .ensures ∙ bytes 32 164 (lit≤ tt))
-    (c .before .before .u32-at2 .ensures ∙ number 4 196 (lit≤ tt))
-    (c .before .u32-at3 .ensures ∙ number 4 200 (lit≤ tt))
+    (c .before .before .u32-at2 .ensures)
+    (c .before .u32-at3 .ensures)
     (c .array32-at6 .ensures ∙ bytes 32 204 (lit≤ tt))
 
 pub header-of-spec : {M : Type 1} → statement M

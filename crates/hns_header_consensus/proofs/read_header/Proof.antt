@@ -3,9 +3,8 @@ use Rattle.hns_refusals.specs.Refusals.{unexpectedEnd}
 use Rattle.hns_encoding.specs.Bytes.{stop}
 use Rattle.hns_header_consensus.specs.Answers.{decodedOf}
 use Rattle.hns_header_consensus.proofs.Headers.{placed, ends}
-use lib.ListN.{length}
 use mathlib.Core.Path.{_≡_, ap, _∙_}
-use Prim.Native.Nat.{_+_, _-_}
+use Prim.Native.Nat.{ℕ, _+_, _-_}
 use native.Mathlib.Omega.{arith}
 use Rattle.hns_header_consensus.proofs.read_header.Statement.{statement}
 use Rattle.hns_header_consensus.proofs.read_header.Tie as tie
@@ -25,7 +24,7 @@ refused-requires c κs = search needs
 returns : tie.Need-returns
 returns c =
     let a = c .before .before .before .before .before .args in
-    let short : c .before .unexpected-end .result ≡ unexpectedEnd (a .position) (236 - (length (a .input .now) - a .position)) = cc in
+    let short = c .before .unexpected-end .ensures ∙ ap (λ (n : ℕ). unexpectedEnd (a .position) (236 - n)) (c .before .before .before .remaining .ensures) in
     c .refused .ensures ∙ (ap (λ r. decodedOf (stop r)) short ∙ ends (a .input .now) (a .position) (omega arith))
 
 add-end : tie.Need-add-end

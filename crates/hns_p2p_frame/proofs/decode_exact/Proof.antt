@@ -46,7 +46,7 @@ module _ (net : NetworkMagic) (xs : List ℕ) {a : Prefix} (q : a ≡ prefixOf (
     unfolding decodeExact exactly exactOf
     one h =
         let v = front-whole (front net xs) q e in
-        rw (v .is, after, eq-eqb (length xs - t) 0 (omega arith), v .kind, v .size)
+        rw (v .is, after, eq-eqb (length xs - t) 0 (omega arith), v .packetType, v .size)
 
 decode-frame-prefix-requires : tie.Need-decode-frame-prefix-requires
 decode-frame-prefix-requires c κs = search needs
@@ -63,8 +63,8 @@ incomplete-frame-requires c κs = search needs
 enum-known-why : tie.Need-enum-known-why
 enum-known-why c = search needs
 
-enum-known-kind : tie.Need-enum-known-kind
-enum-known-kind c = search needs
+enum-known-packet-type : tie.Need-enum-known-packet-type
+enum-known-packet-type c = search needs
 
 sub-trailing-bytes : tie.Need-sub-trailing-bytes
 sub-trailing-bytes c = search needs
@@ -76,7 +76,7 @@ returns : tie.Need-returns
 returns c =
     let z = c .before .before .before .before .before .before .before .args in
     let d = c .before .before .before .before .before .decode-frame-prefix in
-    let f = c .before .before .before .kind .given in
+    let f = c .before .before .before .packet-type .given in
     more (z .network) (z .input .now) (d .ensures) (f .1) (c .before .if1 .taken) (c .trailing-bytes .ensures)
 
 returns-2 : tie.Need-returns-2
@@ -95,7 +95,7 @@ returns-4 : tie.Need-returns-4
 returns-4 c =
     let z = c .before .before .before .before .before .before .args in
     let d = c .before .before .before .before .decode-frame-prefix in
-    one (z .network) (z .input .now) (d .ensures) (c .before .before .kind .given .1) (c .if1 .left)
+    one (z .network) (z .input .now) (d .ensures) (c .before .before .packet-type .given .1) (c .if1 .left)
 
 pub decode-exact-spec : {M : Type 1} → statement M
 decode-exact-spec =
@@ -106,7 +106,7 @@ decode-exact-spec =
     bytes-needed-for-frame-requires
     incomplete-frame-requires
     enum-known-why
-    enum-known-kind
+    enum-known-packet-type
     sub-trailing-bytes
     trailing-bytes-requires
     returns

@@ -52,8 +52,8 @@ returns-4 c =
     begun-is (z .args .network) (z .args .input .now) (z .args .expected) (b .begins .result) (b .before .if1 .left) (z .pre) (b .begins .ensures)
     (c .before .before .u32-at2 .result) (c .before .before .before .if2 .left) (c .before .before .u32-at2 .ensures) (c .before .if3 .left) (c .if4 .taken)
 
-shared-slice-read-kind : tie.Need-shared-slice-read-kind
-shared-slice-read-kind c = search needs
+shared-slice-read-packet-type : tie.Need-shared-slice-read-packet-type
+shared-slice-read-packet-type c = search needs
 
 returns-5 : tie.Need-returns-5
 returns-5 c =
@@ -78,5 +78,5 @@ prefix-with-spec =
     returns-3
     add-taken
     returns-4
-    shared-slice-read-kind
+    shared-slice-read-packet-type
     returns-5)

@@ -8,14 +8,14 @@ use Rattle.survey_cases.proofs.export.Statement.{statement}
 use Rattle.survey_cases.proofs.export.Tie as tie
 
 abbrev Inv-loop : tie.InvT-loop
-Inv-loop log store₀ output₀ text₀ now₀ from₀ store output text now from =
-    (from ≤ length log) × ((length store ≡ length store₀) × ((length output ≡ length output₀) × (length text ≡ length text₀)))
+Inv-loop log store₀ output₀ text₀ out₀ now₀ from₀ store output text out now from =
+    (from ≤ length log) × ((length store ≡ length store₀) × ((length output ≡ length output₀) × ((length text ≡ length text₀) × (length out ≡ length out₀))))
 
 abbrev μ-loop : tie.MeasureT-loop
-μ-loop log store₀ output₀ text₀ now₀ from₀ store output text now from = length log - from
+μ-loop log store₀ output₀ text₀ out₀ now₀ from₀ store output text out now from = length log - from
 
 loop-holds : tie.Need-loop-holds Inv-loop μ-loop
-loop-holds c = (omega arith, (refl, (refl, refl)))
+loop-holds c = (omega arith, (refl, (refl, (refl, refl))))
 
 sub-rest : tie.Need-sub-rest Inv-loop μ-loop
 sub-rest c = search needs
@@ -41,6 +41,9 @@ same-length-2 c = search needs
 same-length-3 : tie.Need-same-length-3 Inv-loop μ-loop
 same-length-3 c = search needs
 
+same-length-4 : tie.Need-same-length-4 Inv-loop μ-loop
+same-length-4 c = search needs
+
 returns : tie.Need-returns Inv-loop μ-loop
 returns c = search needs
 
@@ -53,17 +56,23 @@ loop-less c = search needs
 loop-again : tie.Need-loop-again Inv-loop μ-loop
 loop-again c = search needs
 
-put-held-requires : tie.Need-put-held-requires Inv-loop μ-loop
-put-held-requires c κs = search needs
+slice-aggregate-next-chunk : tie.Need-slice-aggregate-next-chunk Inv-loop μ-loop
+slice-aggregate-next-chunk c = search needs
 
-same-length-4 : tie.Need-same-length-4 Inv-loop μ-loop
-same-length-4 c = search needs
+next-chunk-requires-2 : tie.Need-next-chunk-requires-2 Inv-loop μ-loop
+next-chunk-requires-2 c κs = search needs
 
 same-length-5 : tie.Need-same-length-5 Inv-loop μ-loop
 same-length-5 c = search needs
 
 same-length-6 : tie.Need-same-length-6 Inv-loop μ-loop
 same-length-6 c = search needs
+
+same-length-7 : tie.Need-same-length-7 Inv-loop μ-loop
+same-length-7 c = search needs
+
+same-length-8 : tie.Need-same-length-8 Inv-loop μ-loop
+same-length-8 c = search needs
 
 returns-2 : tie.Need-returns-2 Inv-loop μ-loop
 returns-2 c = search needs
@@ -83,12 +92,15 @@ export-spec =
     same-length
     same-length-2
     same-length-3
+    same-length-4
     returns
     chunk-end-requires
     loop-less
     loop-again
-    put-held-requires
-    same-length-4
+    slice-aggregate-next-chunk
+    next-chunk-requires-2
     same-length-5
     same-length-6
+    same-length-7
+    same-length-8
     returns-2)

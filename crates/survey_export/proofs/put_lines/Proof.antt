@@ -47,8 +47,8 @@ returns-2 c = ends-refused (c .before .before .before .before .loop .inv) (c .be
 same-length-2 : tie.Need-same-length-2 Inv-loop μ-loop
 same-length-2 c = put-length (returns-2 c)
 
-enum-known-kind : tie.Need-enum-known-kind Inv-loop μ-loop
-enum-known-kind c = search needs
+enum-known-packet-type : tie.Need-enum-known-packet-type Inv-loop μ-loop
+enum-known-packet-type c = search needs
 
 payload-requires : tie.Need-payload-requires Inv-loop μ-loop
 payload-requires c κs = search needs
@@ -57,13 +57,13 @@ put-line-requires : tie.Need-put-line-requires Inv-loop μ-loop
 put-line-requires c κs = search needs
 
 loop-again : tie.Need-loop-again Inv-loop μ-loop
-loop-again c = goes-on (c .before .before .before .before .before .before .before .before .before .before .loop .inv) (c .before .before .before .before .before .before .before .before .decode-frame-prefix .ensures) (c .before .before .before .before .before .before .kind .given .1) (omega arith) (c .before .before .before .before .payload .ensures) (c .before .before .put-line .ensures)
+loop-again c = goes-on (c .before .before .before .before .before .before .before .before .before .before .loop .inv) (c .before .before .before .before .before .before .before .before .decode-frame-prefix .ensures) (c .before .before .before .before .before .before .packet-type .given .1) (omega arith) (c .before .before .before .before .payload .ensures) (c .before .before .put-line .ensures)
 
 add-at : tie.Need-add-at Inv-loop μ-loop
 add-at c = omega (arith, loop-again c .inside)
 
 loop-less : tie.Need-loop-less Inv-loop μ-loop
-loop-less c = omega (arith, loop-again c .inside, gains (c .before .before .before .before .before .before .before .before .before .before .loop .inv) (c .before .before .before .before .before .before .before .before .decode-frame-prefix .ensures) (c .before .before .before .before .before .before .kind .given .1))
+loop-less c = omega (arith, loop-again c .inside, gains (c .before .before .before .before .before .before .before .before .before .before .loop .inv) (c .before .before .before .before .before .before .before .before .decode-frame-prefix .ensures) (c .before .before .before .before .before .before .packet-type .given .1))
 
 pub put-lines-spec : {M : Type 1} → statement M
 put-lines-spec =
@@ -82,7 +82,7 @@ put-lines-spec =
     enum-told-2
     same-length-2
     returns-2
-    enum-known-kind
+    enum-known-packet-type
     payload-requires
     put-line-requires
     add-at

@@ -262,8 +262,8 @@ impl List {
 
     fn frames(&mut self) {
         for network in 0..4 {
-            for (kind, length) in [(0, 0), (1, 1), (30, 7), (255, 20)] {
-                self.written(network, kind, length);
+            for (packet_type, length) in [(0, 0), (1, 1), (30, 7), (255, 20)] {
+                self.written(network, packet_type, length);
             }
             let good = encoded(network, 2, 5);
             for length in 0..=good.len() {
@@ -278,11 +278,11 @@ impl List {
         }
     }
 
-    fn written(&mut self, network: usize, kind: u8, length: usize) {
-        let bytes = encoded(network, kind, length);
+    fn written(&mut self, network: usize, packet_type: u8, length: usize) {
+        let bytes = encoded(network, packet_type, length);
         let answer = row(Ok([bytes.len() as u64, 0, 0, 0, 0]), 0);
         let answer = format!("{answer} {}", spliced(48, 0, &bytes));
-        let numbers = [kind.into(), 0, 0];
+        let numbers = [packet_type.into(), 0, 0];
         self.add(21, network, numbers, &payload(length), &answer);
     }
 
@@ -292,8 +292,8 @@ impl List {
         let front = decode_frame_prefix(rust::NETWORKS[network], bytes).map_err(rust::wire_error);
         let front = front.map(|whole| {
             whole.map_or([0; 5], |(frame, taken)| {
-                let [kind, length] = parts(&frame);
-                [1, kind, length, taken as u64, 0]
+                let [packet_type, length] = parts(&frame);
+                [1, packet_type, length, taken as u64, 0]
             })
         });
         self.add(
@@ -305,8 +305,8 @@ impl List {
         );
         let exact = Frame::decode_exact(rust::NETWORKS[network], bytes).map_err(rust::wire_error);
         let exact = exact.map(|frame| {
-            let [kind, length] = parts(&frame);
-            [kind, length, 0, 0, 0]
+            let [packet_type, length] = parts(&frame);
+            [packet_type, length, 0, 0, 0]
         });
         self.add(
             20,
@@ -384,9 +384,9 @@ fn payload(length: usize) -> Vec<u8> {
     (0..length).map(|i| (i * 11 + 5) as u8).collect()
 }
 
-fn encoded(network: usize, kind: u8, length: usize) -> Vec<u8> {
+fn encoded(network: usize, packet_type: u8, length: usize) -> Vec<u8> {
     let frame = Frame {
-        packet_type: PacketType::from_u8(kind),
+        packet_type: PacketType::from_u8(packet_type),
         payload: payload(length),
     };
     let bytes = frame.encode(rust::NETWORKS[network]);

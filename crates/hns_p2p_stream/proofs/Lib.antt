@@ -1,0 +1,10 @@
+pub mod Encodings
+pub mod Grown
+pub mod Ends
+pub mod Pushes
+pub mod Demand3
+pub mod Worked
+pub mod Conditions
+pub mod Inputs
+pub mod Sharp
+pub mod Trials

@@ -1,0 +1,3 @@
+pub mod Conditions
+pub mod Stream
+pub mod Trials
