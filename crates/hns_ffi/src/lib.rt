@@ -8,13 +8,13 @@ ghost use Rattle.hns_encoding.specs.Bytes.{leBytes, bytesAt, leAt, endAt};
 ghost use Rattle.hns_encoding.specs.Compact.{compactAt, compactBytes, countAt, boundedAt, varbytesAt, varbytes, sizesAt};
 ghost use Rattle.hns_encoding.specs.Put.{Put, splice};
 ghost use Rattle.hns_encoding.specs.Answers.{numberOf, sliceOf, finishedOf, sizesOf};
-ghost use Rattle.hns_encoding.specs.Format.{write, valueAt};
+ghost use Rattle.hns_encoding.specs.Format.{write};
 ghost use Rattle.hns_header_consensus.specs.Layout.{header, decodeHeader, headerAt};
-ghost use Rattle.hns_header_consensus.specs.Answers.{fieldsOf, headerOf, decodedOf};
+ghost use Rattle.hns_header_consensus.specs.Answers.{fieldsOf, decodedOf};
 ghost use Rattle.hns_p2p_frame.specs.Frame.{front, decodeExact, writeFrame};
 ghost use Rattle.hns_p2p_frame.specs.Push as Push;
 ghost use Rattle.hns_p2p_frame.specs.Answers.{prefixOf, exactOf};
-ghost use Rattle.hns_ffi.specs.Hashes.{hashesOf, hashesKept, headerFrom};
+ghost use Rattle.hns_header_hashes.specs.Hashes.{hashesKept, headerFrom};
 ghost use Rattle.hns_rows.specs.Rows.{answered, networkOf, numberRow, sizesRow, sliceRow, finishedRow, headerRow, prefixRow, exactRow, encodedRow, pushedRow};
 
 // Reads at a place. A number's row has its value and the place after it.
@@ -200,39 +200,13 @@ pub extern "C" fn hns_put_varbytes(value: &[u8], out: &mut [u8], position: usize
     Encoder { position }.put_varbytes(out, value).position
 }
 
-// Headers. Their hashes stand side by side, as specs/Hashes.antt has them.
-// In the 236 bytes they stand in two runs, before version and bits and after, so two copies are enough.
-fn put_hashes(block: &[u8], out: &mut [u8])
-    requires { ⌜ length (now block) ≡ 236 ⌝ }
-    ensures { λ _. ⌜ now (out .exit) ≡ splice (now (out .entry)) 0 (hashesOf (headerOf (valueAt header _ (now (block .entry)) 0))) ⌝ }
-{
-    let e = Encoder::new().put_bytes(out, &block[12..196]);
-    e.put_bytes(out, &block[204..236]);
-}
-
-fn keep_hashes(input: &[u8], out: &mut [u8])
-    ensures { λ _. ⌜ now (out .exit) ≡ hashesKept (decodedOf (decodeHeader (now (input .entry))) .answer) (decodedOf (decodeHeader (now (input .entry))) .header) (now (out .entry)) ⌝ }
-{
-    if input.len() == hns_header_consensus::HEADER_SIZE {
-        put_hashes(input, out);
-    }
-}
-
-fn keep_hashes_at(input: &[u8], position: usize, out: &mut [u8])
-    ensures { λ _. ⌜ now (out .exit) ≡ hashesKept (decodedOf (headerAt (now (input .entry)) position) .answer) (decodedOf (headerAt (now (input .entry)) position) .header) (now (out .entry)) ⌝ }
-{
-    if hns_header_consensus::HEADER_SIZE <= hns_encoding::remaining(input, position) {
-        let end = position + hns_header_consensus::HEADER_SIZE;
-        put_hashes(&input[position..end], out);
-    }
-}
-
+// Headers. Their hashes stand side by side, as crates/hns_header_hashes/specs/Hashes.antt has them.
 #[no_mangle]
 pub extern "C" fn hns_decode_header(input: &[u8], hashes: &mut [u8], answer: &mut [u64])
     ensures { λ _. ⌜ now (answer .exit) ≡ answered (now (answer .entry)) (headerRow (decodedOf (decodeHeader (now (input .entry))) .answer) (decodedOf (decodeHeader (now (input .entry))) .header)) ⌝ }
     ensures { λ _. ⌜ now (hashes .exit) ≡ hashesKept (decodedOf (decodeHeader (now (input .entry))) .answer) (decodedOf (decodeHeader (now (input .entry))) .header) (now (hashes .entry)) ⌝ }
 {
-    keep_hashes(input, hashes);
+    hns_header_hashes::keep_hashes(input, hashes);
     let decoded = Header::decode(input);
     let found = decoded.answer;
     let header = decoded.header;
@@ -250,29 +224,11 @@ pub extern "C" fn hns_read_header(
     ensures { λ _. ⌜ now (answer .exit) ≡ answered (now (answer .entry)) (headerRow (decodedOf (headerAt (now (input .entry)) position) .answer) (decodedOf (headerAt (now (input .entry)) position) .header)) ⌝ }
     ensures { λ _. ⌜ now (hashes .exit) ≡ hashesKept (decodedOf (headerAt (now (input .entry)) position) .answer) (decodedOf (headerAt (now (input .entry)) position) .header) (now (hashes .entry)) ⌝ }
 {
-    keep_hashes_at(input, position, hashes);
+    hns_header_hashes::keep_hashes_at(input, position, hashes);
     let decoded = hns_header_consensus::read_header(input, position);
     let found = decoded.answer;
     let header = decoded.header;
     hns_rows::put_row(answer, hns_rows::of_header(found, header));
-}
-
-fn header_from(nonce: u32, time: u64, hashes: &[u8], version: u32, bits: u32) -> Header
-    ensures { λ r. ⌜ r ≡ headerFrom nonce time (now (hashes .entry)) version bits ⌝ }
-{
-    Header {
-        nonce,
-        time,
-        previous_block: hns_encoder::array32_at(hashes, 0),
-        tree_root: hns_encoder::array32_at(hashes, 32),
-        extra_nonce: hns_encoder::array24_at(hashes, 64),
-        reserved_root: hns_encoder::array32_at(hashes, 88),
-        witness_root: hns_encoder::array32_at(hashes, 120),
-        merkle_root: hns_encoder::array32_at(hashes, 152),
-        version,
-        bits,
-        mask: hns_encoder::array32_at(hashes, 184),
-    }
 }
 
 // A hash that is not all there is put as zeros.
@@ -288,7 +244,7 @@ pub extern "C" fn hns_put_header(
 ) -> usize
     ensures { λ r. ⌜ Put (now (out .entry)) position (write header (fieldsOf (headerFrom nonce time (now (hashes .entry)) version bits))) (now (out .exit)) r ⌝ }
 {
-    let header = header_from(nonce, time, hashes, version, bits);
+    let header = hns_header_hashes::header_from(nonce, time, hashes, version, bits);
     header.encode_to(Encoder { position }, out).position
 }
 

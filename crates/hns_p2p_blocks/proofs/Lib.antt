@@ -1,0 +1,5 @@
+pub mod Ends
+pub mod Blocks
+pub mod Signed
+pub mod Addresses
+pub mod Packets

@@ -1,0 +1,4 @@
+pub mod Widths
+pub mod Indexes
+pub mod Spans
+pub mod Card

@@ -1,0 +1,58 @@
+// Where a hash stands among the inventory items of a payload.
+use hns_p2p_types::Found;
+use hns_p2p_types::Listing;
+ghost use mathlib.Core.Path.{_≡_};
+ghost use Prim.Native.Nat.{_+_, _*_, _≤_};
+ghost use lib.ListN.{length};
+ghost use Rattle.hns_p2p_items.specs.Items.{listedOf};
+ghost use Rattle.hns_p2p_find.specs.Find.{Finds};
+ghost use Rattle.hns_p2p_find.specs.Helpers.{FindsLowest, agree, Scanned};
+
+// Whether the 32 bytes at a place are the hash: all of them are compared, without a branch.
+fn same_hash(payload: &[u8], at: usize, hash: [u8; 32]) -> bool
+    requires { ⌜ at + 32 ≤ length (now payload) ⌝ }
+    ensures { λ r. ⌜ r ≡ agree 32 (now (payload .entry)) at hash ⌝ }
+{
+    let mut same = true;
+    let mut i = 0;
+    while i < 32 {
+        same = same & (payload[at + i] == hash[i]);
+        i += 1;
+    }
+    same
+}
+
+// The lowest place of an item with the hash, of `count` items from `first` on: kind 4, hash 32.
+fn scan(payload: &[u8], first: usize, count: usize, hash: [u8; 32]) -> Found
+    requires { ⌜ first + count * 36 ≤ length (now payload) ⌝ }
+    ensures { λ r. ⌜ Scanned (now (payload .entry)) first count hash r ⌝ }
+{
+    let mut place = 0;
+    while place < count {
+        if same_hash(payload, first + place * 36 + 4, hash) {
+            return Found::At(place);
+        }
+        place += 1;
+    }
+    Found::Nowhere
+}
+
+// The lowest place of an inventory item with the hash.
+fn lowest(packet_type: u8, payload: &[u8], hash: [u8; 32]) -> Found
+    ensures { λ r. ⌜ FindsLowest (listedOf «packet_type» (now (payload .entry))) hash r ⌝ }
+{
+    let list = hns_p2p_items::listing(packet_type, payload);
+    match list {
+        Listing::Inventory(items) => scan(payload, items.first, items.count, hash),
+        Listing::Refused(refusal) => Found::Refused(refusal),
+        _ => Found::Nowhere,
+    }
+}
+
+// A place of an inventory item with the hash, or none exactly if no item has it; a payload that doesn't read gets that
+// refusal. Document 01 leaves open which of several places it is, so the contract states the place by its property.
+pub fn find(packet_type: u8, payload: &[u8], hash: [u8; 32]) -> Found
+    ensures { λ r. ⌜ Finds (listedOf «packet_type» (now (payload .entry))) hash r ⌝ }
+{
+    lowest(packet_type, payload, hash)
+}

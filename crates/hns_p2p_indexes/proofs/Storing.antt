@@ -1,0 +1,216 @@
+-- Indexes to an output's front: what is stored and what is left are the whole list. Assumes nothing.
+use Prim.Native.Nat.{ℕ, suc, _+_, _-_, _≤_, _<_}
+use mathlib.Core.Path.{_≡_, refl, sym, ap, _∙_, subst}
+use mathlib.Core.List.{List, [], _∷_}
+use native.Mathlib.Omega.{arith}
+use lib.ListN.{length, set, length-set, take-append-drop}
+use lib.Dec.{leb}
+use borrow.Author.Tests.{le-leb, lt-leb}
+use denote.Enum.Declared.{tagOf}
+use types.Run.{OneOf, miss}
+use Rattle.hns_refusals.specs.declared.Refusal.{Refusal}
+use Rattle.hns_refusals.specs.Limits.{maxPayload, maxIndex}
+use Rattle.hns_refusals.specs.Refusals.{outputShort, indexField}
+use Rattle.hns_encoding.specs.Bytes.{Bytes, Outcome, got, stop}
+use Rattle.hns_encoding.specs.Compact.{compactAt}
+use Rattle.hns_encoding.specs.Format.{Value, read, indexesFrom}
+use Rattle.hns_encoding.specs.Put.{splice}
+use Rattle.hns_encoding.specs.Answers.{numberOf}
+use Rattle.hns_encoding.specs.declared.Number.{Number}
+use Rattle.hns_encoding.specs.declared.Number.the-variants as N
+use Rattle.hns_encoding.proofs.Outcomes.{choose-got, toEnd-got, count-got}
+use Rattle.hns_encoding.proofs.Puts.{splice-fits, splice-append, splice-byte}
+use Rattle.hns_encoding.proofs.Reading.{value-read, refusal-read}
+use Rattle.hns_p2p_types.specs.Protocol.{getblocktxn, always, readBy}
+use Rattle.hns_p2p_types.specs.declared.Items.{Items}
+use Rattle.hns_p2p_types.specs.declared.Listing.{Listing}
+use Rattle.hns_p2p_types.specs.declared.Listing.the-variants as L
+use Rattle.hns_p2p_types.proofs.Listing as listings
+use Rattle.hns_p2p_types.specs.declared.Packet.the-variants as P
+use Rattle.hns_p2p_types.specs.declared.Stored.{Stored}
+use Rattle.hns_p2p_types.specs.declared.Stored.the-variants as S
+use Rattle.hns_p2p_types.specs.Packets.{itemsAt, row, rows, answered, packetOf}
+use Rattle.hns_p2p_items.specs.Listings.{listIn, listingOf}
+use Rattle.hns_p2p_items.proofs.Held.{Indexed, indexed-there}
+use Rattle.hns_p2p_items.proofs.Items.{First, first-of}
+use Rattle.hns_p2p_indexes.specs.Indexes.{Answer, storedBy, storedOf}
+use Rattle.hns_p2p_indexes.specs.Helpers.{Reads, indexesOf}
+
+-- ---- the loop
+
+-- i indexes are stored, and the others are read from `next` on, each at least `base`
+pub record StoredTo (count : ℕ) (s : List ℕ) (first : ℕ) (o₀ o : List ℕ) (i base next : ℕ) : Type 0 where
+  pub some : i ≤ count
+  pub low : base ≤ maxIndex + 1
+  pub long : length o ≡ length o₀
+  pub rest : Reads (count - i) base s next
+  pub whole : splice o₀ 0 (indexesOf (indexesFrom count 0 s first)) ≡ splice o i (indexesOf (indexesFrom (count - i) base s next))
+
+pub store-start : (count : ℕ) (s : List ℕ) (first : ℕ) (o : List ℕ) → Reads count 0 s first → StoredTo count s first o o 0 0 first
+store-start count s first o r =
+    let all : count - 0 ≡ count = omega arith in
+    record { some = omega arith; low = omega arith; long = refl; rest = rw all r; whole = rw all }
+
+-- one index is read and stored
+pub record Turn (k base : ℕ) (s : List ℕ) (p : ℕ) (d next : ℕ) : Type 0 where
+  pub small : base + d ≤ maxIndex
+  pub rest : Reads k (base + d + 1) s next
+  pub is : indexesOf (indexesFrom (suc k) base s p) ≡ (base + d) ∷ indexesOf (indexesFrom k (base + d + 1) s next)
+
+made-turn : (k base : ℕ) (s : List ℕ) (p : ℕ) {is : List ℕ} (f : First k base s p is) → Turn k base s p (f .d) (f .next)
+made-turn k base s p f =
+    record {
+      small = f .small;
+      rest = record { indexes = f .rest; last = f .end; reads = f .reads };
+      is = rw (f .difference, le-leb (base + f .d) maxIndex (f .small), f .reads);
+    }
+
+module _ (k base : ℕ) (s : List ℕ) (p : ℕ) (r : Reads (suc k) base s p) {read : Number} (e : read ≡ numberOf (compactAt s p)) where
+  never-refused : {q : Refusal} → read ≡ N.Refused q → ⊥
+  never-refused g =
+      let f = first-of k base s p (r .reads) in
+      let a = count-got maxIndex indexField s p (f .difference) .0 in
+      let b = refusal-read (compactAt s p) e g in
+      let z : _≡_ {A = ℕ} 0 1 = cc in omega arith
+
+  turn : {d next : ℕ} → read ≡ N.Value d next → Turn k base s p d next
+  turn {d} {next} g =
+      let f = first-of k base s p (r .reads) in
+      let a = count-got maxIndex indexField s p (f .difference) .0 in
+      let b = value-read (compactAt s p) e g in
+      let same-d : f .d ≡ d = cc in
+      let same-next : f .next ≡ next = cc in
+      subst (λ (n : ℕ). Turn k base s p d n) same-next (subst (λ (n : ℕ). Turn k base s p n (f .next)) same-d (made-turn k base s p f))
+
+splice-none : (o : List ℕ) (p : ℕ) → splice o p [] ≡ o
+splice-none o p =
+    let here : p + 0 ≡ p = omega arith in
+    splice-fits o p [] (omega arith) ∙ rw here (take-append-drop p o)
+
+-- one more to an output
+splice-cons : (o : List ℕ) (p x : ℕ) (xs : List ℕ) → splice o p (x ∷ xs) ≡ splice (set o p x) (p + 1) xs
+splice-cons o p x xs = splice-append o p (x ∷ []) xs ∙ ap (λ (l : List ℕ). splice l (p + 1) xs) (splice-byte o p x)
+
+module _ {count : ℕ} {s : List ℕ} {first : ℕ} {o₀ o : List ℕ} {i base next : ℕ} (t : StoredTo count s first o₀ o i base next) where
+  module _ (h : i < count) where
+    more : count - i ≡ suc (count - (i + 1))
+    more = omega arith
+
+    here : Reads (suc (count - (i + 1))) base s next
+    here = subst (λ (n : ℕ). Reads n base s next) more (t .rest)
+
+    module _ {read : Number} (e : read ≡ numberOf (compactAt s next)) where
+      pub store-never : {q : Refusal} → read ≡ N.Refused q → ⊥
+      store-never g = never-refused (count - (i + 1)) base s next here e g
+
+      module _ {d after : ℕ} (g : read ≡ N.Value d after) where
+        pub store-small : base + d ≤ maxIndex
+        store-small = turn (count - (i + 1)) base s next here e g .small
+
+        pub store-next : StoredTo count s first o₀ (set o i (base + d)) (i + 1) (base + d + 1) after
+        store-next =
+            let u = turn (count - (i + 1)) base s next here e g in
+            record {
+              some = omega arith;
+              low = omega (arith, u .small);
+              long = length-set o i (base + d) ∙ t .long;
+              rest = u .rest;
+              whole = t .whole
+                  ∙ (ap (λ (n : ℕ). splice o i (indexesOf (indexesFrom n base s next))) more
+                  ∙ (ap (splice o i) (u .is) ∙ splice-cons o i (base + d) (indexesOf (indexesFrom (count - (i + 1)) (base + d + 1) s after))));
+            }
+
+  pub store-end : count ≤ i → o ≡ splice o₀ 0 (indexesOf (indexesFrom count 0 s first))
+  store-end h =
+      let none : count - i ≡ 0 = omega arith in
+      sym (t .whole ∙ (ap (λ (n : ℕ). splice o i (indexesOf (indexesFrom n base s next))) none ∙ splice-none o i))
+
+-- ---- a payload
+
+-- the code's list of a getblocktxn payload
+abbrev Seen : List ℕ → Listing → Outcome (Value getblocktxn) → Type 0
+Seen s list (got v last) = (list ≡ L.Indexes (itemsAt 32 (v .1))) × Indexed s (itemsAt 32 (v .1)) (v .1)
+Seen s list (stop r) = list ≡ L.Refused r
+
+seen : (s : List ℕ) → Bytes s → Seen s (listingOf 24 s) (readBy (always getblocktxn) s)
+unfolding listingOf listIn packetOf row rows readBy
+seen s bs = go (readBy (always getblocktxn) s) refl
+  where
+    go : (o : Outcome (Value getblocktxn)) → readBy (always getblocktxn) s ≡ o → Seen s (listIn (answered (λ v. P.GetBlockTxn (record { «block_hash» = 0; indexes = itemsAt 32 (v .1) })) o)) o
+    go (got v last) e =
+        let k = choose-got (leb (length s) maxPayload) _ _ e in
+        (refl, indexed-there s bs v (toEnd-got (read getblocktxn) s (k .1) .0))
+    go (stop r) e = refl
+
+refused-seen : (s : List ℕ) {list : Listing} {r : Refusal} (q : Outcome (Value getblocktxn)) → Seen s list q → list ≡ L.Refused r → q ≡ stop r
+refused-seen s (got v last) x e = let a = x .0 in let z : _≡_ {A = ℕ} 0 1 = cc in absurd (omega arith)
+refused-seen s {r = r} (stop p) x e = let same : p ≡ r = cc in ap stop same
+
+-- an index list that is read
+record Read (s : List ℕ) (i : Items) (q : Outcome (Value getblocktxn)) : Type 0 where
+  value : Value getblocktxn
+  last : ℕ
+  is : q ≡ got value last
+  many : i .count ≡ length (value .1)
+  indexed : Indexed s i (value .1)
+
+indexes-seen : (s : List ℕ) {list : Listing} {i : Items} (q : Outcome (Value getblocktxn)) → Seen s list q → list ≡ L.Indexes i → Read s i q
+indexes-seen s {list} {i} (got v last) x e =
+    let same : itemsAt 32 (v .1) ≡ i = cc (x .0) in
+    subst (λ (j : Items). Read s j (got v last)) same (record { value = v; last = last; is = refl; many = refl; indexed = x .1 })
+indexes-seen s (stop r) x e = let z : _≡_ {A = ℕ} 0 1 = cc in absurd (omega arith)
+
+-- the numbers of the lists that are no index list and no refusal
+abbrev others : List ℕ
+others = 0 ∷ 1 ∷ 2 ∷ 3 ∷ 5 ∷ []
+
+never-other : (s : List ℕ) (list : Listing) (q : Outcome (Value getblocktxn)) → Seen s list q → OneOf others (tagOf listings.the-type list) → ⊥
+never-other s list (got v last) x k = miss others 4 tt (rw (x .0) at k)
+never-other s list (stop r) x k = miss others 6 tt (rw x at k)
+
+-- ---- the answers of `indexes`
+
+-- an answer and the output after it
+abbrev pub Answers : List ℕ → List ℕ → Stored → List ℕ → Type 0
+Answers s o answer output = (answer ≡ storedOf s o .answer) × (output ≡ storedOf s o .output)
+
+answers : {a : Stored} {o′ : List ℕ} {x : Answer} → record { answer = a; output = o′ } ≡ x → (a ≡ x .answer) × (o′ ≡ x .output)
+answers e = (ap (λ (x : Answer). x .answer) e, ap (λ (x : Answer). x .output) e)
+
+module _ (o : List ℕ) (v : Value getblocktxn) (last n : ℕ) (many : n ≡ length (v .1)) where
+  short-by : length o < n → {q : Refusal} → q ≡ outputShort n → record { answer = S.Refused q; output = o } ≡ storedBy (got v last) o
+  short-by h k =
+      let over : length o < length (v .1) = omega arith in
+      rw (k, many, lt-leb (length (v .1)) (length o) over)
+
+  fit-by : n ≤ length o → {o′ : List ℕ} → o′ ≡ splice o 0 (v .1) → record { answer = S.Count n; output = o′ } ≡ storedBy (got v last) o
+  fit-by h k =
+      let fits : length (v .1) ≤ length o = omega arith in
+      rw (k, many, le-leb (length (v .1)) (length o) fits)
+
+module _ (s : List ℕ) (bs : Bytes s) {list : Listing} (e : list ≡ listingOf 24 s) where
+  by : Seen s list (readBy (always getblocktxn) s)
+  by = subst (λ (l : Listing). Seen s l (readBy (always getblocktxn) s)) (sym e) (seen s bs)
+
+  pub indexes-refused : (o : List ℕ) {r : Refusal} → list ≡ L.Refused r → Answers s o (S.Refused r) o
+  unfolding storedOf
+  indexes-refused o g = answers (rw (refused-seen s (readBy (always getblocktxn) s) by g))
+
+  pub indexes-only : OneOf others (tagOf listings.the-type list) → ⊥
+  indexes-only k = never-other s list (readBy (always getblocktxn) s) by k
+
+  module _ {i : Items} (g : list ≡ L.Indexes i) where
+    r : Read s i (readBy (always getblocktxn) s)
+    r = indexes-seen s (readBy (always getblocktxn) s) by g
+
+    pub indexes-read : Reads (i .count) 0 s (i .first)
+    indexes-read = record { indexes = r .value .1; last = r .indexed .last; reads = r .indexed .reads }
+
+    pub indexes-short : (o : List ℕ) → length o < i .count → {q : Refusal} → q ≡ outputShort (i .count) → Answers s o (S.Refused q) o
+    unfolding storedOf
+    indexes-short o h k = answers (short-by o (r .value) (r .last) (i .count) (r .many) h k ∙ sym (ap (λ (q : Outcome (Value getblocktxn)). storedBy q o) (r .is)))
+
+    pub indexes-fit : (o : List ℕ) → i .count ≤ length o → {o′ : List ℕ} → o′ ≡ splice o 0 (indexesOf (indexesFrom (i .count) 0 s (i .first))) → Answers s o (S.Count (i .count)) o′
+    unfolding storedOf
+    indexes-fit o h k =
+        answers (fit-by o (r .value) (r .last) (i .count) (r .many) h (k ∙ ap (λ (q : Outcome (List ℕ)). splice o 0 (indexesOf q)) (r .indexed .reads)) ∙ sym (ap (λ (q : Outcome (Value getblocktxn)). storedBy q o) (r .is)))

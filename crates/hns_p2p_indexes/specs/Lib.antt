@@ -1,0 +1,2 @@
+pub mod Indexes
+pub mod Helpers

@@ -1,0 +1,56 @@
+// All indexes of a getblocktxn payload at once, for callers that would fetch them one by one.
+use hns_encoding::Number;
+use hns_p2p_types::Listing;
+use hns_p2p_types::Stored;
+use hns_refusals::Refusal;
+ghost use mathlib.Core.Path.{_≡_};
+ghost use Prim.Native.Nat.{_≤_};
+ghost use lib.ListN.{length};
+ghost use Rattle.hns_encoding.specs.Format.{indexesFrom};
+ghost use Rattle.hns_encoding.specs.Put.{splice};
+ghost use Rattle.hns_p2p_indexes.specs.Indexes.{storedOf};
+ghost use Rattle.hns_p2p_indexes.specs.Helpers.{Reads, indexesOf};
+
+// So many indexes, which read, to the output's front.
+fn store(payload: &[u8], count: usize, first: usize, out: &mut [u64])
+    requires { ⌜ Reads count 0 (now payload) first × (count ≤ length (now out)) ⌝ }
+    ensures { λ _. ⌜ now (out .exit) ≡ splice (now (out .entry)) 0 (indexesOf (indexesFrom count 0 (now (payload .entry)) first)) ⌝ }
+{
+    let mut i = 0;
+    let mut base: u64 = 0;
+    let mut next = first;
+    while i < count {
+        match hns_encoding::read_compact_size(payload, next) {
+            Number::Refused(_) => return,
+            Number::Value(difference, after) => {
+                let index = base + difference;
+                out[i] = index;
+                base = index + 1;
+                next = after;
+                i += 1;
+            }
+        }
+    }
+}
+
+// The indexes of a getblocktxn payload to the front of `out`: the payload's refusal, then 16 with the places needed; what is
+// refused writes nothing.
+pub fn indexes(payload: &[u8], out: &mut [u64]) -> Stored
+    ensures { λ r. ⌜ r ≡ storedOf (now (payload .entry)) (now (out .entry)) .answer ⌝ }
+    ensures { λ _. ⌜ now (out .exit) ≡ storedOf (now (payload .entry)) (now (out .entry)) .output ⌝ }
+{
+    let list = hns_p2p_items::listing(24, payload);
+    match list {
+        Listing::Indexes(items) => {
+            let count = items.count;
+            let first = items.first;
+            if out.len() < count {
+                return Stored::Refused(Refusal::output_short(count));
+            }
+            store(payload, count, first, out);
+            Stored::Count(count)
+        }
+        Listing::Refused(refusal) => Stored::Refused(refusal),
+        _ => Stored::Count(0),
+    }
+}

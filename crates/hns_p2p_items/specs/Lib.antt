@@ -1,0 +1,3 @@
+pub mod Items
+pub mod Listings
+pub mod Helpers

@@ -1,0 +1,29 @@
+use mathlib.Core.Path.{ap, _∙_}
+use Rattle.hns_encoding.specs.Format.{num, raw, _▸_}
+use Rattle.hns_encoding.proofs.Numbers.{bytes-known}
+use Rattle.hns_p2p_lists.specs.Lists.{inventoryOf}
+use Rattle.hns_p2p_lists.specs.Helpers.{listPacket}
+use Rattle.hns_p2p_lists.proofs.Listed.{list-answer}
+use borrow.Author.Needs.{needs}
+use Rattle.hns_p2p_lists.proofs.read_inventory.Statement.{statement}
+use Rattle.hns_p2p_lists.proofs.read_inventory.Tie as tie
+
+slice-aggregate-read-list : tie.Need-slice-aggregate-read-list
+slice-aggregate-read-list c = search needs
+
+read-list-requires : tie.Need-read-list-requires
+read-list-requires c κs = search needs
+
+list-packet-requires : tie.Need-list-packet-requires
+list-packet-requires c κs = search needs
+
+returns : tie.Need-returns
+unfolding inventoryOf
+returns c =
+    let s = c .before .before .before .before .args .payload .now in
+    let bs = bytes-known s (λ i. c .before .before .before .shared-slice-known .given i .fits) in
+    c .list-packet .ensures ∙ (ap (listPacket (c .before .before .before .before .args .packet-type) s) (c .before .read-list .ensures) ∙ list-answer (c .before .before .before .before .args .packet-type) 50000 2 (num 4 ▸ raw 32) _ s bs)
+
+pub read-inventory-spec : {M : Type 1} → statement M
+read-inventory-spec =
+    tie.close (tie.spec slice-aggregate-read-list read-list-requires list-packet-requires returns)

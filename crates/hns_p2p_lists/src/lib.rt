@@ -1,0 +1,195 @@
+// Payloads that are lists: a count and items of one size are one multiplication; index lists are walked.
+use hns_encoding::Number;
+use hns_p2p_types::CompactBlockRequest;
+use hns_p2p_types::Items;
+use hns_p2p_types::LocatorPacket;
+use hns_p2p_types::Packet;
+use hns_refusals::Refusal;
+ghost use mathlib.Core.Path.{_≡_};
+ghost use Prim.Native.Nat.{_*_, _<_, _^_};
+ghost use Rattle.hns_encoding.specs.Format.{sum, indexesFrom};
+ghost use Rattle.hns_p2p_types.specs.Packets.{fieldsOf};
+ghost use Rattle.hns_p2p_lists.specs.Lists.{listKind, locatorKind, inventoryOf, locatorOf, passedOf};
+ghost use Rattle.hns_p2p_lists.specs.Helpers.{listAt, countedOf, listPacket, stopPacket};
+
+// Items under a count and the place after them, or the refusal.
+enum Counted {
+    Items {
+        count: usize,
+        first: usize,
+        next: usize,
+    },
+    Refused(Refusal),
+}
+
+// The place after an index list and its last index, 0 where it has none; or the refusal.
+pub enum Passed {
+    To { next: usize, last: u64 },
+    Refused(Refusal),
+}
+
+// A count of at most so many, and as many records of these widths. Where they do not all fit, the bytes end in the record
+// that begins last.
+fn read_list(payload: &[u8], limit: u64, field: u64, widths: &[usize], size: usize) -> Counted
+    requires { ⌜ (size ≡ sum (now widths)) × (0 < size) × (limit * size < 2 ^ 64) ⌝ }
+    ensures { λ r. ⌜ r ≡ countedOf (listAt limit field (now (widths .entry)) (now (payload .entry)) 0) ⌝ }
+{
+    let read = hns_encoding::read_count(payload, 0, limit, field);
+    match read {
+        Number::Value(value, first) => {
+            let count = value as usize;
+            let bytes = count * size;
+            let there = hns_encoding::remaining(payload, first);
+            if there < bytes {
+                let whole = there - there % size;
+                let refusal = hns_p2p_blocks::ends_in(payload, widths, first + whole);
+                return Counted::Refused(refusal);
+            }
+            Counted::Items {
+                count,
+                first,
+                next: first + bytes,
+            }
+        }
+        Number::Refused(refusal) => Counted::Refused(refusal),
+    }
+}
+
+fn list_kind(packet_type: u8, items: Items) -> Packet
+    ensures { λ r. ⌜ r ≡ listKind «packet_type» items ⌝ }
+{
+    match packet_type {
+        5 => Packet::Addr(items),
+        6 => Packet::Inv(items),
+        7 => Packet::GetData(items),
+        8 => Packet::NotFound(items),
+        _ => Packet::Headers(items),
+    }
+}
+
+// A packet that is a list.
+fn list_packet(packet_type: u8, payload: &[u8], list: Counted) -> Packet
+    ensures { λ r. ⌜ r ≡ listPacket «packet_type» (now (payload .entry)) list ⌝ }
+{
+    match list {
+        Counted::Items { count, first, next } => {
+            let packet = list_kind(packet_type, Items { count, first });
+            hns_p2p_blocks::close(payload, next, packet)
+        }
+        Counted::Refused(refusal) => Packet::Refused(refusal),
+    }
+}
+
+fn locator_kind(packet_type: u8, locator: LocatorPacket) -> Packet
+    ensures { λ r. ⌜ r ≡ locatorKind «packet_type» locator ⌝ }
+{
+    if packet_type == 9 {
+        Packet::GetBlocks(locator)
+    } else {
+        Packet::GetHeaders(locator)
+    }
+}
+
+// A packet that is a list and a stop hash.
+fn stop_packet(packet_type: u8, payload: &[u8], list: Counted) -> Packet
+    ensures { λ r. ⌜ r ≡ stopPacket «packet_type» (now (payload .entry)) list ⌝ }
+{
+    match list {
+        Counted::Items { count, first, next } => {
+            let there = hns_encoding::remaining(payload, next);
+            if there < 32 {
+                return Packet::Refused(Refusal::unexpected_end(next, 32 - there));
+            }
+            let locator = Items { count, first };
+            let packet = LocatorPacket {
+                locator,
+                stop: next,
+            };
+            hns_p2p_blocks::close(payload, next + 32, locator_kind(packet_type, packet))
+        }
+        Counted::Refused(refusal) => Packet::Refused(refusal),
+    }
+}
+
+pub fn read_addr(payload: &[u8]) -> Packet
+    ensures { λ r. ⌜ r ≡ fieldsOf 5 (now (payload .entry)) ⌝ }
+{
+    let widths = [8, 4, 4, 1, 36, 2, 33];
+    list_packet(5, payload, read_list(payload, 1_000, 1, &widths, 88))
+}
+
+// Types 6, 7 and 8.
+pub fn read_inventory(packet_type: u8, payload: &[u8]) -> Packet
+    ensures { λ r. ⌜ r ≡ inventoryOf «packet_type» (now (payload .entry)) ⌝ }
+{
+    let list = read_list(payload, 50_000, 2, &[4, 32], 36);
+    list_packet(packet_type, payload, list)
+}
+
+// Types 9 and 10.
+pub fn read_locator(packet_type: u8, payload: &[u8]) -> Packet
+    ensures { λ r. ⌜ r ≡ locatorOf «packet_type» (now (payload .entry)) ⌝ }
+{
+    let list = read_list(payload, 50_000, 3, &[32], 32);
+    stop_packet(packet_type, payload, list)
+}
+
+pub fn read_headers(payload: &[u8]) -> Packet
+    ensures { λ r. ⌜ r ≡ fieldsOf 11 (now (payload .entry)) ⌝ }
+{
+    list_packet(11, payload, read_list(payload, 2_000, 4, &[236], 236))
+}
+
+// So many differences from a place on: each index is the one before, its difference and one more.
+pub fn pass_indexes(payload: &[u8], count: u64, first: usize) -> Passed
+    ensures { λ r. ⌜ r ≡ passedOf 0 (indexesFrom count 0 (now (payload .entry)) first) ⌝ }
+{
+    let mut i: u64 = 0;
+    let mut base: u64 = 0;
+    let mut last: u64 = 0;
+    let mut next = first;
+    while i < count {
+        match hns_encoding::read_count(payload, next, 65_535, 6) {
+            Number::Refused(refusal) => return Passed::Refused(refusal),
+            Number::Value(difference, after) => {
+                let index = base + difference;
+                if 65_535 < index {
+                    return Passed::Refused(Refusal::index_over());
+                }
+                base = index + 1;
+                last = index;
+                next = after;
+                i += 1;
+            }
+        }
+    }
+    Passed::To { next, last }
+}
+
+pub fn read_getblocktxn(payload: &[u8]) -> Packet
+    ensures { λ r. ⌜ r ≡ fieldsOf 24 (now (payload .entry)) ⌝ }
+{
+    let there = payload.len();
+    if there < 32 {
+        return Packet::Refused(Refusal::unexpected_end(0, 32 - there));
+    }
+    let read = hns_encoding::read_count(payload, 32, 16_662, 5);
+    match read {
+        Number::Value(value, first) => {
+            let passed = pass_indexes(payload, value, first);
+            match passed {
+                Passed::To { next, last: _ } => {
+                    let count = value as usize;
+                    let indexes = Items { count, first };
+                    let request = CompactBlockRequest {
+                        block_hash: 0,
+                        indexes,
+                    };
+                    hns_p2p_blocks::close(payload, next, Packet::GetBlockTxn(request))
+                }
+                Passed::Refused(refusal) => Packet::Refused(refusal),
+            }
+        }
+        Number::Refused(refusal) => Packet::Refused(refusal),
+    }
+}

@@ -1,0 +1,60 @@
+-- The rows of the table: a packet's fields by its type. Assumes nothing.
+use Rattle.hns_refusals.specs.Limits.{maxPayload}
+use Prim.Native.Nat.{ℕ, _≤_, _<_}
+use mathlib.Core.Path.{_≡_, refl, sym, ap, _∙_}
+use mathlib.Core.List.{List}
+use native.Mathlib.Omega.{arith}
+use lib.ListN.{length, List·getD-eq-default}
+use lib.Seq.{take-all}
+use borrow.Author.Tests.{le-leb, lt-leb}
+use Rattle.hns_refusals.specs.declared.Refusal.{Refusal}
+use Rattle.hns_refusals.specs.Refusals.{payloadTooLarge}
+use Rattle.hns_encoding.specs.Bytes.{Outcome, got, stop, after, bytesAt, endAt, toEnd}
+use Rattle.hns_encoding.specs.Format.{raw, read}
+use Rattle.hns_encoding.specs.declared.Number.the-variants as N
+use Rattle.hns_encoding.proofs.Outcomes.{bytes-fits, toEnd-fits}
+use Rattle.hns_p2p_types.specs.declared.Span.{Span}
+use Rattle.hns_p2p_types.specs.declared.Packet.{Packet}
+use Rattle.hns_p2p_types.specs.declared.Packet.the-variants as P
+use Rattle.hns_p2p_types.specs.Protocol.{readBy}
+use Rattle.hns_p2p_types.specs.Packets.{Row, empty, rawBytes, row, rows, answered, packetOf}
+use Rattle.hns_p2p_blocks.specs.Blocks.{gate}
+use Rattle.hns_p2p_types.specs.Packets.{fieldsBy, fieldsOf}
+
+-- ---- by the type
+
+pub at-type : (s : List ℕ) {t k : ℕ} → t ≡ k → {r : Packet} → r ≡ fieldsOf k s → r ≡ fieldsOf t s
+at-type s e q = q ∙ ap (λ (n : ℕ). fieldsOf n s) (sym e)
+
+pub empty-fields : (packet : Packet) (s : List ℕ) {r : Packet} → r ≡ gate (endAt s 0) packet → r ≡ fieldsBy (empty packet) s
+unfolding toEnd read
+empty-fields packet s e = e ∙ go (endAt s 0)
+  where
+    go : (o : Outcome (Unit {0})) → gate o packet ≡ answered (λ (v : Unit {0}). packet) (after o (λ u last. got tt last))
+    go (got u last) = refl
+    go (stop r) = refl
+
+-- all bytes read as they stand
+all-bytes : (s : List ℕ) → toEnd (read (raw (length s))) s ≡ got s (length s)
+unfolding read
+all-bytes s =
+    let here : bytesAt (length s) s 0 ≡ got s (length s) = bytes-fits (length s) s 0 (omega arith) ∙ rw (take-all (length s) s (omega arith)) (ap (got s) (omega arith)) in
+    toEnd-fits (bytesAt (length s)) s here (omega arith)
+
+pub raw-fields : (packet : Span → Packet) (s : List ℕ) → packet (record { start = 0; length = length s }) ≡ fieldsBy (rawBytes packet) s
+raw-fields packet s = rw (all-bytes s)
+
+-- past the table
+pub unknown-fields : (t : ℕ) (s : List ℕ) → 30 ≤ t → P.Unknown t (record { start = 0; length = length s }) ≡ fieldsOf t s
+unfolding fieldsOf row rows
+unknown-fields t s h = raw-fields (P.Unknown t) s ∙ ap (λ (w : Row). fieldsBy w s) (sym (List·getD-eq-default rows (rawBytes (P.Unknown t)) h))
+
+-- ---- the shell
+
+pub packet-fields : (t : ℕ) (s : List ℕ) → length s ≤ maxPayload → {r : Packet} → r ≡ fieldsOf t s → r ≡ packetOf t s
+unfolding fieldsOf packetOf readBy
+packet-fields t s h e = e ∙ rw (le-leb (length s) maxPayload h)
+
+pub packet-large : (t : ℕ) (s : List ℕ) → maxPayload < length s → {r : Refusal} → r ≡ payloadTooLarge (length s) → P.Refused r ≡ packetOf t s
+unfolding packetOf readBy
+packet-large t s h e = rw (lt-leb (length s) maxPayload h) (ap P.Refused e)

@@ -1,0 +1,110 @@
+// Payloads of all 256 types, read as packets.
+use hns_p2p_types::Packet;
+use hns_p2p_types::Span;
+use hns_refusals::Refusal;
+ghost use mathlib.Core.Path.{_≡_};
+ghost use mathlib.Core.List.{map};
+ghost use Prim.Native.Nat.{_+_, _≤_};
+ghost use lib.ListN.{length};
+ghost use Rattle.hns_encoding.specs.Bytes.{part};
+ghost use Rattle.hns_encoding.specs.Format.{low7};
+ghost use Rattle.hns_encoding.specs.Put.{splice};
+ghost use Rattle.hns_p2p_types.specs.Packets.{fieldsOf, packetOf, readPacket};
+ghost use Rattle.hns_p2p_packet.specs.Spans.{textSpan};
+
+// The packet of a payload that is within its limit.
+fn read_fields(packet_type: u8, payload: &[u8]) -> Packet
+    ensures { λ r. ⌜ r ≡ fieldsOf «packet_type» (now (payload .entry)) ⌝ }
+{
+    let length = payload.len();
+    let all = Span { start: 0, length };
+    match packet_type {
+        0 => hns_p2p_blocks::read_version(payload),
+        1 => hns_p2p_blocks::close(payload, 0, Packet::Verack),
+        2 => hns_p2p_blocks::read_ping(payload),
+        3 => hns_p2p_blocks::read_pong(payload),
+        4 => hns_p2p_blocks::close(payload, 0, Packet::GetAddr),
+        5 => hns_p2p_lists::read_addr(payload),
+        6 => hns_p2p_lists::read_inventory(6, payload),
+        7 => hns_p2p_lists::read_inventory(7, payload),
+        8 => hns_p2p_lists::read_inventory(8, payload),
+        9 => hns_p2p_lists::read_locator(9, payload),
+        10 => hns_p2p_lists::read_locator(10, payload),
+        11 => hns_p2p_lists::read_headers(payload),
+        12 => hns_p2p_blocks::close(payload, 0, Packet::SendHeaders),
+        13 => Packet::Block(all),
+        14 => Packet::Tx(all),
+        15 => hns_p2p_blocks::read_reject(payload),
+        16 => hns_p2p_blocks::close(payload, 0, Packet::Mempool),
+        17 => Packet::FilterLoad(all),
+        18 => Packet::FilterAdd(all),
+        19 => hns_p2p_blocks::close(payload, 0, Packet::FilterClear),
+        20 => Packet::MerkleBlock(all),
+        21 => hns_p2p_blocks::read_feefilter(payload),
+        22 => hns_p2p_blocks::read_sendcmpct(payload),
+        23 => Packet::CmpctBlock(all),
+        24 => hns_p2p_lists::read_getblocktxn(payload),
+        25 => Packet::BlockTxn(all),
+        26 => hns_p2p_blocks::read_getproof(payload),
+        27 => Packet::Proof(all),
+        28 => Packet::Claim(all),
+        29 => Packet::Airdrop(all),
+        _ => Packet::Unknown {
+            packet_type,
+            payload: all,
+        },
+    }
+}
+
+// The packet that a payload of a type reads as, or the refusal. Its text stays where it is, so that 16 is none here.
+pub fn read_payload(packet_type: u8, payload: &[u8]) -> Packet
+    ensures { λ r. ⌜ r ≡ packetOf «packet_type» (now (payload .entry)) ⌝ }
+{
+    let length = payload.len();
+    if 8_000_000 < length {
+        return Packet::Refused(Refusal::payload_too_large(length));
+    }
+    read_fields(packet_type, payload)
+}
+
+// Where the text of a packet stands; none for a packet that has no text.
+fn text_span(packet: Packet) -> Span
+    ensures { λ r. ⌜ r ≡ textSpan packet ⌝ }
+{
+    match packet {
+        Packet::Version(version) => version.agent,
+        Packet::Reject(reject) => reject.reason,
+        _ => Span {
+            start: 0,
+            length: 0,
+        },
+    }
+}
+
+// Bytes of the payload, each without its top bit, to the output's front.
+fn put_text(payload: &[u8], start: usize, size: usize, text: &mut [u8])
+    requires { ⌜ (start + size ≤ length (now payload)) × (size ≤ length (now text)) ⌝ }
+    ensures { λ _. ⌜ now (text .exit) ≡ splice (now (text .entry)) 0 (map low7 (part (now (payload .entry)) start size)) ⌝ }
+{
+    let mut i = 0;
+    while i < size {
+        text[i] = payload[start + i] % 128;
+        i += 1;
+    }
+}
+
+// As `read_payload`, and the agent or the reason, each byte without its top bit, goes to the front of `text`.
+pub fn read_packet(packet_type: u8, payload: &[u8], text: &mut [u8]) -> Packet
+    ensures { λ r. ⌜ r ≡ readPacket «packet_type» (now (payload .entry)) (now (text .entry)) .packet ⌝ }
+    ensures { λ _. ⌜ now (text .exit) ≡ readPacket «packet_type» (now (payload .entry)) (now (text .entry)) .text ⌝ }
+{
+    let packet = read_payload(packet_type, payload);
+    let span = text_span(packet);
+    let start = span.start;
+    let size = span.length;
+    if text.len() < size {
+        return Packet::Refused(Refusal::output_short(size));
+    }
+    put_text(payload, start, size, text);
+    packet
+}
