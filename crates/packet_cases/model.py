@@ -2,8 +2,8 @@
 """A model of packet reading, written from docs/01-scope.md ("the paper").
 
 `python3 model.py` checks the model against answers worked out by hand from the
-paper (hand_checks), then writes `stdin` and `stdout` beside this file. Nothing
-is random. Every line of `stdout` is `answer(line)` of the same line of `stdin`:
+paper (hand_checks), then writes `stdin` and `stdout` beside this file; with
+`--check` it compares them with the files that are there. Nothing is random. Every line of `stdout` is `answer(line)` of the same line of `stdin`:
 the reader below works it out from the digits, nothing is written by hand.
 
 Part 1  the model (the reader, the item by place, the finder, the indexes)
@@ -16,6 +16,7 @@ Part 5  the cases, in groups
 import hashlib
 import os
 import re
+import sys
 
 # ---------------------------------------------------------------------------
 # Part 1: the model
@@ -527,7 +528,7 @@ def case(operation, kind, n, rest):
     assert operation != 0 or n <= 300
     assert operation != 3 or (n <= 40 and kind == 24)
     line = line_of(operation, kind, n, rest)
-    assert len(line) <= 12_000, (operation, kind, len(line))
+    assert len(line) <= 180_000, (operation, kind, len(line))
     if line not in SEEN:               # a line that another group has already is left out
         SEEN.add(line)
         LINES.append(line)
@@ -678,9 +679,25 @@ def cases():
         read(kind, make_list(6, 2), 1)
         read(kind, b"\xff" * 10)
         read(kind, bytes(236))
-    for kind in (17, 30, 255):
+    for kind in sorted(RAW)[:12] + [255]:
         read(kind, blob("raw long", 300))
     read(13, blob("block", 5990))
+
+    # -- Lists as long as they may be, where a line of the file can hold them.
+    group("lists at their limit")
+    at_limit = b"\xfd\xe8\x03" + bytes(88 * 1_000)
+    read(5, at_limit)
+    for place in (0, 999, 1_000):
+        get(5, at_limit, place)
+    most = getblocktxn([0] * 16_662)
+    read(24, most)
+    for place in (0, 16_661, 16_662):
+        get(24, most, place)
+    idx(most, 40)
+    read(24, getblocktxn([0] * 16_663))
+    read(24, getblocktxn([1] * 16_662))
+    read(24, getblocktxn([48_874] + [0] * 16_661))
+    read(24, getblocktxn([48_873] + [0] * 16_661))
 
     # -- The empty types with bytes behind.
     group("empty types with bytes")
@@ -1165,19 +1182,26 @@ def cases():
                 idx(bytes(data), (state >> 54) % 10)
 
 
-def main():
+def main(check):
     checks = hand_checks()
     cases()
     here = os.path.dirname(os.path.abspath(__file__))
     answers = []
     for line in LINES:
-        assert re.fullmatch(r"[0-9a-f]{20,12000}", line)
+        assert re.fullmatch(r"[0-9a-f]{20,180000}", line)
         got = answer(line)
         assert re.fullmatch(r"[a-z0-9 -]+", got) and "  " not in got and got == got.strip()
         answers.append(got)
     for name, content in (("stdin", LINES), ("stdout", answers)):
-        with open(os.path.join(here, name), "w", newline="\n") as f:
-            f.write("".join(line + "\n" for line in content))
+        path = os.path.join(here, name)
+        whole = "".join(line + "\n" for line in content)
+        if check:
+            with open(path, newline="\n") as f:
+                if f.read() != whole:
+                    sys.exit("%s is not what the model gives" % path)
+        else:
+            with open(path, "w", newline="\n") as f:
+                f.write(whole)
     print("%d answers worked out by hand hold" % checks)
     for name, first, count in GROUPS:
         print("%6d cases, lines %d to %d: %s" % (count, first, first + count - 1, name))
@@ -1185,4 +1209,4 @@ def main():
 
 
 if __name__ == "__main__":
-    main()
+    main(sys.argv[1:] == ["--check"])

@@ -1,6 +1,7 @@
 // Payloads without counts: each is one test of the length, and then numbers at known places.
 use hns_p2p_types::GetProofPacket;
 use hns_p2p_types::Hash;
+use hns_p2p_types::NET_ADDRESS_SIZE;
 use hns_p2p_types::NetAddress;
 use hns_p2p_types::Packet;
 use hns_p2p_types::RejectPacket;
@@ -110,7 +111,7 @@ pub fn read_getproof(payload: &[u8]) -> Packet
     block(payload, &[32, 32], 64, Packet::GetProof(packet))
 }
 
-// Not a branch once it is compiled.
+// One of two numbers: the halves of an ip are chosen one by one.
 fn pick(test: bool, a: u64, b: u64) -> u64
     ensures { λ r. ⌜ r ≡ choose test a b ⌝ }
 {
@@ -121,7 +122,7 @@ fn pick(test: bool, a: u64, b: u64) -> u64
 pub fn address_at(payload: &[u8], at: usize) -> NetAddress
     ensures { λ r. ⌜ r ≡ addressIn (now (payload .entry)) at ⌝ }
 {
-    if hns_encoding::remaining(payload, at) < 88 {
+    if hns_encoding::remaining(payload, at) < NET_ADDRESS_SIZE {
         return NetAddress {
             time: 0,
             services: 0,

@@ -26,8 +26,8 @@ use Rattle.hns_p2p_types.specs.declared.Item.{Item}
 use Rattle.hns_p2p_types.specs.declared.Item.the-variants as I
 use Rattle.hns_p2p_lists.specs.Lists.{valuesAt}
 use Rattle.hns_p2p_items.specs.Items.{Element, anInventory, anIndex, Listed, listedOf, Stands, key-there, hash-there, bytes-there, header-there, index-there}
-use Rattle.hns_p2p_items.specs.Listings.{listingOf}
-use Rattle.hns_p2p_items.proofs.Held.{Records, Holds, HeldBy, held-by, refused-held}
+use Rattle.hns_p2p_items.specs.Listings.{listingOf, Records, Holds, HeldBy}
+use Rattle.hns_p2p_items.proofs.Held.{held-by, refused-held}
 use Rattle.hns_p2p_items.proofs.Items.{records-many, nth-record, stands}
 use Rattle.hns_p2p_find.specs.Find.{Is, Has, Finds, NoneExactly, ItemThere, FoundItem}
 use Rattle.hns_p2p_find.specs.Helpers.{agree, hashAt, NoneBelow, Scanned, Lowest, FindsLowest}

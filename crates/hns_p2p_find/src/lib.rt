@@ -49,8 +49,8 @@ fn lowest(packet_type: u8, payload: &[u8], hash: [u8; 32]) -> Found
     }
 }
 
-// A place of an inventory item with the hash, or none exactly if no item has it; a payload that doesn't read gets that
-// refusal. Document 01 leaves open which of several places it is, so the contract states the place by its property.
+// A place of an inventory item with the hash; none, if and only if no item has it; or why the payload was refused.
+// Document 01 leaves open which of several places it is, so the contract states the place by its property.
 pub fn find(packet_type: u8, payload: &[u8], hash: [u8; 32]) -> Found
     ensures { λ r. ⌜ Finds (listedOf «packet_type» (now (payload .entry))) hash r ⌝ }
 {

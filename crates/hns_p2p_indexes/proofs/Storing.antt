@@ -30,8 +30,8 @@ use Rattle.hns_p2p_types.specs.declared.Packet.the-variants as P
 use Rattle.hns_p2p_types.specs.declared.Stored.{Stored}
 use Rattle.hns_p2p_types.specs.declared.Stored.the-variants as S
 use Rattle.hns_p2p_types.specs.Packets.{itemsAt, row, rows, answered, packetOf}
-use Rattle.hns_p2p_items.specs.Listings.{listIn, listingOf}
-use Rattle.hns_p2p_items.proofs.Held.{Indexed, indexed-there}
+use Rattle.hns_p2p_items.specs.Listings.{listIn, listingOf, Indexed}
+use Rattle.hns_p2p_items.proofs.Held.{indexed-there}
 use Rattle.hns_p2p_items.proofs.Items.{First, first-of}
 use Rattle.hns_p2p_indexes.specs.Indexes.{Answer, storedBy, storedOf}
 use Rattle.hns_p2p_indexes.specs.Helpers.{Reads, indexesOf}

@@ -7,7 +7,8 @@ use Rattle.hns_refusals.specs.Refusals.{outputShort}
 use Rattle.hns_encoding.specs.Bytes.{choose, Outcome, got, stop}
 use Rattle.hns_encoding.specs.Format.{Value}
 use Rattle.hns_encoding.specs.Put.{splice}
-use Rattle.hns_p2p_types.specs.Protocol.{getblocktxn, always, readBy}
+use Rattle.hns_p2p_types.specs.Protocol.{getblocktxn, readBy}
+use Rattle.hns_p2p_types.specs.Packets.{rows, row, layout}
 use Rattle.hns_p2p_types.specs.declared.Stored.{Stored}
 use Rattle.hns_p2p_types.specs.declared.Stored.the-variants as S
 
@@ -27,4 +28,5 @@ storedBy (stop r) o = record { answer = S.Refused r; output = o }
 
 -- of a payload s, with the output o
 unfoldable pub storedOf : List ℕ → List ℕ → Answer
-storedOf s o = storedBy (readBy (always getblocktxn) s) o
+unfolding row rows
+storedOf s o = storedBy (readBy (layout 24) s) o

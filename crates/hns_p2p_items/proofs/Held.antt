@@ -16,7 +16,6 @@ use Rattle.hns_encoding.proofs.Outcomes.{after-got, choose-got, bytes-got, toEn
 use Rattle.hns_encoding.proofs.Forward.{compact-got}
 use Rattle.hns_header_consensus.specs.Layout.{header}
 use Rattle.hns_p2p_types.specs.Protocol.{address, inventoryItem, locator, getblocktxn, readBy}
-use Rattle.hns_p2p_types.specs.declared.Items.{Items}
 use Rattle.hns_p2p_types.specs.declared.Listing.{Listing}
 use Rattle.hns_p2p_types.specs.declared.Listing.the-variants as L
 use Rattle.hns_p2p_types.specs.declared.Packet.the-variants as P
@@ -26,38 +25,9 @@ use Rattle.hns_p2p_lists.specs.Helpers.{recordsAt}
 use Rattle.hns_p2p_lists.proofs.Lists.{length-values, many-fits, records}
 use Rattle.hns_p2p_lists.proofs.Listed.{count-place, list-stands}
 use Rattle.hns_p2p_lists.proofs.Requests.{index-count}
-use Rattle.hns_p2p_items.specs.Items.{Element, anAddress, anInventory, aHash, aHeader, anIndex, Listed, under, items, RowItems, none, rowItems, itemsBy, listedOf}
-use Rattle.hns_p2p_items.specs.Listings.{listIn, listingOf}
+use Rattle.hns_p2p_items.specs.Items.{Element, anAddress, anInventory, aHash, aHeader, Listed, under, items, RowItems, none, rowItems, itemsBy, listedOf}
+use Rattle.hns_p2p_items.specs.Listings.{listIn, listingOf, Records, Indexed, Indexes, Holds, HeldBy, ListingHolds}
 use Rattle.hns_p2p_items.specs.Helpers.{itemsIn}
-
--- ---- what a list says of the items
-
--- items of a fixed size, one after another from the first place on
-pub record Records (f : Format) (x : Fixed f) (element : Value f → Element) (s : List ℕ) (i : Items) (l : Listed) : Type 0 where
-  pub same : l .elements ≡ map element (valuesAt f x (i .count) s (i .first))
-  pub begins : l .first ≡ i .first
-  pub inside : i .first + i .count * size f ≤ length s
-
--- indexes that are read from the first place on
-pub record Indexed (s : List ℕ) (i : Items) (is : List ℕ) : Type 0 where
-  pub last : ℕ
-  pub reads : indexesFrom (i .count) 0 s (i .first) ≡ got is last
-  pub inside : i .first ≤ length s
-  pub few : i .count ≤ maxIndexes
-
-pub record Indexes (s : List ℕ) (i : Items) (l : Listed) : Type 0 where
-  pub indexes : List ℕ
-  pub indexed : Indexed s i indexes
-  pub same : l .elements ≡ map anIndex indexes
-
-abbrev pub Holds : List ℕ → Listing → Listed → Type 0
-Holds s (L.Addresses i) l = Records address _ anAddress s i l
-Holds s (L.Inventory i) l = Records inventoryItem _ anInventory s i l
-Holds s (L.Hashes i) l = Records (raw 32) _ aHash s i l
-Holds s (L.Headers i) l = Records (whole blockHeaderSize header) (refl, _) aHeader s i l
-Holds s (L.Indexes i) l = Indexes s i l
-Holds s L.Nothing l = l .elements ≡ []
-Holds s (L.Refused r) l = ⊥
 
 -- ---- lists of items of a fixed size
 
@@ -173,12 +143,7 @@ row-held t = both-at RowItems Held rows (rawBytes (P.Unknown t)) t rowItems none
 
 -- ---- a payload
 
--- the code's list is refused as the payload is, or holds its items
-abbrev pub HeldBy : List ℕ → Listing → Outcome Listed → Type 0
-HeldBy s list (got l last) = Holds s list l × (length s ≤ maxPayload)
-HeldBy s list (stop r) = list ≡ L.Refused r
-
-held : (t : ℕ) (s : List ℕ) → Bytes s → HeldBy s (listingOf t s) (listedOf t s)
+pub held : ListingHolds
 unfolding listingOf listedOf packetOf readBy listIn
 held t s bs = go (readBy (layout t) s) refl
   where

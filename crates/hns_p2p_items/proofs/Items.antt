@@ -37,9 +37,9 @@ use Rattle.hns_p2p_lists.proofs.Lists.{length-values, value-stands}
 use Rattle.hns_p2p_lists.proofs.Listed.{index-next, indexes-end}
 use Rattle.hns_p2p_lists.proofs.Requests.{index-count}
 use Rattle.hns_p2p_items.specs.Items.{Element, anIndex, Listed, sizeOf, answer, pick, answerAt, itemBy, itemOf, listedOf, Stands, key-there, hash-there, bytes-there, header-there, index-there, ItemsStand}
-use Rattle.hns_p2p_items.specs.Listings.{listIn, listingOf}
+use Rattle.hns_p2p_items.specs.Listings.{listIn, listingOf, Records, Indexes, Holds, HeldBy}
 use Rattle.hns_p2p_items.specs.Helpers.{itemsIn, lastItem, indexIn, itemIn}
-use Rattle.hns_p2p_items.proofs.Held.{Records, Indexes, Holds, HeldBy, held-by, refused-held, room}
+use Rattle.hns_p2p_items.proofs.Held.{held-by, refused-held, room}
 
 -- ---- packets that have no list
 

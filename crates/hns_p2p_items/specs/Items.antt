@@ -1,4 +1,4 @@
--- Document 01, 'The packet', its paragraph on the finder: the items of a payload, which are those under the count of types 5 to 11 and 24, and the item at a place.
+-- Document 01, 'The packet', its paragraph on the finder: the items of a payload, which only the counted lists have (5 to 11, 24), and the item at a place.
 use Prim.Native.Nat.{ℕ, zero, suc, _+_, _*_, _<_}
 use mathlib.Core.Path.{_≡_}
 use mathlib.Core.List.{List, [], _∷_, map}

@@ -1,8 +1,10 @@
 // Items of a payload: which list stands under its count, and an item of that list by its place.
+use hns_header_consensus::HEADER_SIZE;
 use hns_p2p_lists::Passed;
 use hns_p2p_types::Item;
 use hns_p2p_types::Items;
 use hns_p2p_types::Listing;
+use hns_p2p_types::NET_ADDRESS_SIZE;
 use hns_p2p_types::Packet;
 use hns_refusals::Refusal;
 ghost use mathlib.Core.Path.{_≡_};
@@ -74,14 +76,14 @@ fn index_in(payload: &[u8], first: usize, place: usize) -> Item
     }
 }
 
-// The item at a place of a list that has so many.
+// The item at a place, of a list that is longer.
 fn item_in(payload: &[u8], list: Listing, first: usize, place: usize) -> Item
     requires { ⌜ (first ≤ maxPayload) × (place ≤ maxPayload) ⌝ }
     ensures { λ r. ⌜ r ≡ itemIn (now (payload .entry)) list first place ⌝ }
 {
     match list {
         Listing::Addresses(_) => {
-            let address = hns_p2p_blocks::address_at(payload, first + place * 88);
+            let address = hns_p2p_blocks::address_at(payload, first + place * NET_ADDRESS_SIZE);
             Item::Address(address)
         }
         Listing::Inventory(_) => {
@@ -90,7 +92,7 @@ fn item_in(payload: &[u8], list: Listing, first: usize, place: usize) -> Item
             Item::Inventory { kind, hash: at + 4 }
         }
         Listing::Hashes(_) => Item::Hash(first + place * 32),
-        Listing::Headers(_) => Item::Header(first + place * 236),
+        Listing::Headers(_) => Item::Header(first + place * HEADER_SIZE),
         Listing::Indexes(_) => index_in(payload, first, place),
         Listing::Nothing => Item::Refused(Refusal::no_item()),
         Listing::Refused(refusal) => Item::Refused(refusal),

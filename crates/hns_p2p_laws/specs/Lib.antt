@@ -1,3 +1,4 @@
 pub mod Places
 pub mod Trials
 pub mod Worked
+pub mod Refused

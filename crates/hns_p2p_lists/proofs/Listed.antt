@@ -29,7 +29,8 @@ use Rattle.hns_p2p_lists.specs.declared.Counted.{Counted}
 use Rattle.hns_p2p_lists.specs.declared.Counted.the-variants as C
 use Rattle.hns_p2p_lists.specs.declared.Passed.the-variants as X
 use Rattle.hns_p2p_blocks.specs.Blocks.{gate}
-use Rattle.hns_p2p_lists.specs.Lists.{valuesAt, listKind, locatorKind, passedOf, ListStands}
+use Rattle.hns_p2p_lists.specs.Lists.{valuesAt, passedOf, ListStands}
+use Rattle.hns_p2p_lists.specs.Helpers.{listKind, locatorKind}
 use Rattle.hns_p2p_lists.specs.Helpers.{recordsAt, listAt, countedOf, listPacket, stopPacket}
 use Rattle.hns_p2p_lists.proofs.Lists.{length-values, listed}
 

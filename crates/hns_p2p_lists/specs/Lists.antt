@@ -1,36 +1,12 @@
--- The packets of payloads that are lists of one format under several types, index lists as far as they are passed, and where a list's values stand.
+-- Index lists as far as they are passed, and where a list's values stand.
 use Prim.Native.Nat.{ℕ, zero, suc, _+_}
 use mathlib.Core.Path.{_≡_}
 use mathlib.Core.List.{List, [], _∷_}
-use lib.Dec.{eqb}
-use Rattle.hns_encoding.specs.Bytes.{choose, Bytes, Outcome, got, stop, toEnd}
+use Rattle.hns_encoding.specs.Bytes.{Bytes, Outcome, got, stop}
 use Rattle.hns_encoding.specs.Format.{Format, counted, Value, read, size, Fixed, fixedFlat, valueAt}
-use Rattle.hns_p2p_types.specs.declared.Items.{Items}
-use Rattle.hns_p2p_types.specs.declared.LocatorPacket.{LocatorPacket}
-use Rattle.hns_p2p_types.specs.declared.Packet.{Packet}
-use Rattle.hns_p2p_types.specs.declared.Packet.the-variants as P
-use Rattle.hns_p2p_types.specs.Protocol.{inventory, locator}
-use Rattle.hns_p2p_types.specs.Packets.{itemsAt, locatorPacket, answered}
+use Rattle.hns_p2p_types.specs.Packets.{itemsAt}
 use Rattle.hns_p2p_lists.specs.declared.Passed.{Passed}
 use Rattle.hns_p2p_lists.specs.declared.Passed.the-variants as X
-
--- ---- by type
-
--- the packet of a type that is a list
-unfoldable pub listKind : ℕ → Items → Packet
-listKind t i = choose (eqb t 5) (P.Addr i) (choose (eqb t 6) (P.Inv i) (choose (eqb t 7) (P.GetData i) (choose (eqb t 8) (P.NotFound i) (P.Headers i))))
-
--- of a type that is a locator
-unfoldable pub locatorKind : ℕ → LocatorPacket → Packet
-locatorKind t l = choose (eqb t 9) (P.GetBlocks l) (P.GetHeaders l)
-
--- a list of inventory items, of type 6, 7 or 8
-unfoldable pub inventoryOf : ℕ → List ℕ → Packet
-inventoryOf t s = answered (λ v. listKind t (itemsAt 0 v)) (toEnd (read inventory) s)
-
--- a locator, of type 9 or 10
-unfoldable pub locatorOf : ℕ → List ℕ → Packet
-locatorOf t s = answered (λ v. locatorKind t (locatorPacket s v)) (toEnd (read locator) s)
 
 -- ---- index lists
 

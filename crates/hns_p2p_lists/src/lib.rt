@@ -1,16 +1,34 @@
 // Payloads that are lists: a count and items of one size are one multiplication; index lists are walked.
 use hns_encoding::Number;
+use hns_header_consensus::HEADER_SIZE;
 use hns_p2p_types::CompactBlockRequest;
 use hns_p2p_types::Items;
 use hns_p2p_types::LocatorPacket;
+use hns_p2p_types::MAX_ADDR_ITEMS;
+use hns_p2p_types::MAX_COMPACT_BLOCK_TRANSACTIONS;
+use hns_p2p_types::MAX_HEADERS;
+use hns_p2p_types::MAX_INVENTORY_ITEMS;
+use hns_p2p_types::MAX_LOCATOR_HASHES;
+use hns_p2p_types::NET_ADDRESS_SIZE;
 use hns_p2p_types::Packet;
 use hns_refusals::Refusal;
 ghost use mathlib.Core.Path.{_≡_};
 ghost use Prim.Native.Nat.{_*_, _<_, _^_};
 ghost use Rattle.hns_encoding.specs.Format.{sum, indexesFrom};
 ghost use Rattle.hns_p2p_types.specs.Packets.{fieldsOf};
-ghost use Rattle.hns_p2p_lists.specs.Lists.{listKind, locatorKind, inventoryOf, locatorOf, passedOf};
-ghost use Rattle.hns_p2p_lists.specs.Helpers.{listAt, countedOf, listPacket, stopPacket};
+ghost use Rattle.hns_p2p_lists.specs.Lists.{passedOf};
+ghost use Rattle.hns_p2p_lists.specs.Helpers.{listKind, locatorKind, inventoryOf, locatorOf, listAt, countedOf, listPacket, stopPacket};
+
+// The Rust's limits, as counts are compared with them.
+const ADDRESSES: u64 = MAX_ADDR_ITEMS as u64;
+
+const INVENTORY: u64 = MAX_INVENTORY_ITEMS as u64;
+
+const HASHES: u64 = MAX_LOCATOR_HASHES as u64;
+
+const HEADERS: u64 = MAX_HEADERS as u64;
+
+const INDEXES: u64 = MAX_COMPACT_BLOCK_TRANSACTIONS as u64;
 
 // Items under a count and the place after them, or the refusal.
 enum Counted {
@@ -115,29 +133,67 @@ pub fn read_addr(payload: &[u8]) -> Packet
     ensures { λ r. ⌜ r ≡ fieldsOf 5 (now (payload .entry)) ⌝ }
 {
     let widths = [8, 4, 4, 1, 36, 2, 33];
-    list_packet(5, payload, read_list(payload, 1_000, 1, &widths, 88))
+    list_packet(
+        5,
+        payload,
+        read_list(payload, ADDRESSES, 1, &widths, NET_ADDRESS_SIZE),
+    )
 }
 
-// Types 6, 7 and 8.
-pub fn read_inventory(packet_type: u8, payload: &[u8]) -> Packet
+// An inventory, of type 6, 7 or 8.
+fn read_inventory(packet_type: u8, payload: &[u8]) -> Packet
     ensures { λ r. ⌜ r ≡ inventoryOf «packet_type» (now (payload .entry)) ⌝ }
 {
-    let list = read_list(payload, 50_000, 2, &[4, 32], 36);
+    let list = read_list(payload, INVENTORY, 2, &[4, 32], 36);
     list_packet(packet_type, payload, list)
 }
 
-// Types 9 and 10.
-pub fn read_locator(packet_type: u8, payload: &[u8]) -> Packet
+pub fn read_inv(payload: &[u8]) -> Packet
+    ensures { λ r. ⌜ r ≡ fieldsOf 6 (now (payload .entry)) ⌝ }
+{
+    read_inventory(6, payload)
+}
+
+pub fn read_getdata(payload: &[u8]) -> Packet
+    ensures { λ r. ⌜ r ≡ fieldsOf 7 (now (payload .entry)) ⌝ }
+{
+    read_inventory(7, payload)
+}
+
+pub fn read_notfound(payload: &[u8]) -> Packet
+    ensures { λ r. ⌜ r ≡ fieldsOf 8 (now (payload .entry)) ⌝ }
+{
+    read_inventory(8, payload)
+}
+
+// A locator, of type 9 or 10.
+fn read_locator(packet_type: u8, payload: &[u8]) -> Packet
     ensures { λ r. ⌜ r ≡ locatorOf «packet_type» (now (payload .entry)) ⌝ }
 {
-    let list = read_list(payload, 50_000, 3, &[32], 32);
+    let list = read_list(payload, HASHES, 3, &[32], 32);
     stop_packet(packet_type, payload, list)
+}
+
+pub fn read_getblocks(payload: &[u8]) -> Packet
+    ensures { λ r. ⌜ r ≡ fieldsOf 9 (now (payload .entry)) ⌝ }
+{
+    read_locator(9, payload)
+}
+
+pub fn read_getheaders(payload: &[u8]) -> Packet
+    ensures { λ r. ⌜ r ≡ fieldsOf 10 (now (payload .entry)) ⌝ }
+{
+    read_locator(10, payload)
 }
 
 pub fn read_headers(payload: &[u8]) -> Packet
     ensures { λ r. ⌜ r ≡ fieldsOf 11 (now (payload .entry)) ⌝ }
 {
-    list_packet(11, payload, read_list(payload, 2_000, 4, &[236], 236))
+    list_packet(
+        11,
+        payload,
+        read_list(payload, HEADERS, 4, &[HEADER_SIZE], HEADER_SIZE),
+    )
 }
 
 // So many differences from a place on: each index is the one before, its difference and one more.
@@ -173,7 +229,7 @@ pub fn read_getblocktxn(payload: &[u8]) -> Packet
     if there < 32 {
         return Packet::Refused(Refusal::unexpected_end(0, 32 - there));
     }
-    let read = hns_encoding::read_count(payload, 32, 16_662, 5);
+    let read = hns_encoding::read_count(payload, 32, INDEXES, 5);
     match read {
         Number::Value(value, first) => {
             let passed = pass_indexes(payload, value, first);

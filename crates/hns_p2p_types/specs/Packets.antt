@@ -8,10 +8,10 @@ use lib.IntN.{ℤ, pos, negsuc, negℤ}
 use Rattle.hns_refusals.specs.Refusals.{outputShort}
 use Rattle.hns_encoding.specs.Bytes.{choose, le, part, left, Outcome, got, stop, toEnd}
 use Rattle.hns_encoding.specs.Compact.{compactBytes}
-use Rattle.hns_encoding.specs.Format.{Format, raw, Value, read, All, valueAt}
+use Rattle.hns_encoding.specs.Format.{Format, Value, read, All, valueAt}
 use Rattle.hns_encoding.specs.Put.{splice}
 use Rattle.hns_p2p_types.specs.Protocol as protocol
-use Rattle.hns_p2p_types.specs.Protocol.{address, version, nonce, addresses, inventory, locator, headers, carriesHash, reject, feefilter, sendcmpct, getblocktxn, getproof, Layout, always, readBy}
+use Rattle.hns_p2p_types.specs.Protocol.{address, version, nonce, addresses, inventory, locator, headers, carriesHash, reject, feefilter, sendcmpct, getblocktxn, getproof, Layout, always, rawPayload, readBy}
 use Rattle.hns_p2p_types.specs.declared.Span.{Span}
 use Rattle.hns_p2p_types.specs.declared.Items.{Items}
 use Rattle.hns_p2p_types.specs.declared.Hash.the-variants as H
@@ -101,7 +101,7 @@ abbrev pub empty : Packet → Row
 empty packet = fields protocol.empty (λ s v. packet)
 
 abbrev pub rawBytes : (Span → Packet) → Row
-rawBytes packet = record { layout = raw; packet = λ s v. packet (spanAt 0 v); text = λ s v. [] }
+rawBytes packet = record { layout = rawPayload; packet = λ s v. packet (spanAt 0 v); text = λ s v. [] }
 
 abbrev pub agentOf : Value version → List ℕ
 agentOf v = v .1 .1 .1 .1 .1 .1 .0

@@ -73,12 +73,17 @@ getblocktxn = raw 32 ▸ indexes
 abbrev pub getproof : Format
 getproof = raw 32 ▸ raw 32
 
--- 13, 14, 17, 18, 20, 23, 25, 27 to 255: all bytes as they stand, so that the format is one of the payload's length
+-- ---- formats that go by the payload's length
+
 abbrev pub Layout : Type 0
 Layout = ℕ → Format
 
 abbrev pub always : Format → Layout
 always f n = f
+
+-- 13, 14, 17, 18, 20, 23, 25, 27 to 255: all bytes as they stand
+abbrev pub rawPayload : Layout
+rawPayload n = raw n
 
 -- 5 before the fields; the fields from left to right; 3 after them
 unfoldable pub readBy : (l : Layout) (s : List ℕ) → Outcome (Value (l (length s)))

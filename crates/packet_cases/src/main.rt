@@ -19,7 +19,7 @@ use hns_refusals::Refusal;
 const FRONT: usize = 10;
 
 // Bytes of a case.
-const ROOM: usize = 6_016;
+const ROOM: usize = 90_000;
 
 fn text(t: &[u8]) {
     io::write_all(1, t);

@@ -1,4 +1,4 @@
-use Rattle.hns_p2p_lists.specs.Lists.{listKind}
+use Rattle.hns_p2p_lists.specs.Helpers.{listKind}
 use borrow.Author.Tests.{ne-eqb}
 use Rattle.hns_p2p_lists.proofs.list_kind.Statement.{statement}
 use Rattle.hns_p2p_lists.proofs.list_kind.Tie as tie

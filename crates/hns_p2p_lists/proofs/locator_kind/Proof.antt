@@ -1,4 +1,4 @@
-use Rattle.hns_p2p_lists.specs.Lists.{locatorKind}
+use Rattle.hns_p2p_lists.specs.Helpers.{locatorKind}
 use borrow.Author.Tests.{eq-eqb, ne-eqb}
 use Rattle.hns_p2p_lists.proofs.locator_kind.Statement.{statement}
 use Rattle.hns_p2p_lists.proofs.locator_kind.Tie as tie

@@ -1,7 +1,7 @@
 use mathlib.Core.Path.{ap, _∙_}
 use Rattle.hns_encoding.specs.Format.{num, raw, _▸_}
 use Rattle.hns_encoding.proofs.Numbers.{bytes-known}
-use Rattle.hns_p2p_lists.specs.Lists.{inventoryOf}
+use Rattle.hns_p2p_lists.specs.Helpers.{inventoryOf}
 use Rattle.hns_p2p_lists.specs.Helpers.{listPacket}
 use Rattle.hns_p2p_lists.proofs.Listed.{list-answer}
 use borrow.Author.Needs.{needs}

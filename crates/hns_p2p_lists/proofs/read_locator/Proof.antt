@@ -1,6 +1,6 @@
 use mathlib.Core.Path.{ap, _∙_}
 use Rattle.hns_encoding.proofs.Numbers.{bytes-known}
-use Rattle.hns_p2p_lists.specs.Lists.{locatorOf}
+use Rattle.hns_p2p_lists.specs.Helpers.{locatorOf}
 use Rattle.hns_p2p_lists.specs.Helpers.{stopPacket}
 use Rattle.hns_p2p_lists.proofs.Listed.{stop-answer}
 use borrow.Author.Needs.{needs}

@@ -1,7 +1,6 @@
 use Rattle.hns_p2p_types.specs.Packets.{row, rows}
 use Rattle.hns_p2p_types.specs.declared.Packet.the-variants as P
 use Rattle.hns_p2p_types.specs.Packets.{fieldsOf}
-use Rattle.hns_p2p_lists.specs.Lists.{listKind, locatorKind, inventoryOf, locatorOf}
 use Rattle.hns_p2p_packet.proofs.Fields.{at-type, empty-fields, raw-fields, unknown-fields}
 use Rattle.hns_p2p_types.proofs.Types.{none-below}
 use borrow.Author.Needs.{needs}
@@ -26,20 +25,20 @@ close-requires-2 c κs = search needs
 read-addr-requires : tie.Need-read-addr-requires
 read-addr-requires c κs = search needs
 
-read-inventory-requires : tie.Need-read-inventory-requires
-read-inventory-requires c κs = search needs
+read-inv-requires : tie.Need-read-inv-requires
+read-inv-requires c κs = search needs
 
-read-inventory-requires-2 : tie.Need-read-inventory-requires-2
-read-inventory-requires-2 c κs = search needs
+read-getdata-requires : tie.Need-read-getdata-requires
+read-getdata-requires c κs = search needs
 
-read-inventory-requires-3 : tie.Need-read-inventory-requires-3
-read-inventory-requires-3 c κs = search needs
+read-notfound-requires : tie.Need-read-notfound-requires
+read-notfound-requires c κs = search needs
 
-read-locator-requires : tie.Need-read-locator-requires
-read-locator-requires c κs = search needs
+read-getblocks-requires : tie.Need-read-getblocks-requires
+read-getblocks-requires c κs = search needs
 
-read-locator-requires-2 : tie.Need-read-locator-requires-2
-read-locator-requires-2 c κs = search needs
+read-getheaders-requires : tie.Need-read-getheaders-requires
+read-getheaders-requires c κs = search needs
 
 read-headers-requires : tie.Need-read-headers-requires
 read-headers-requires c κs = search needs
@@ -89,24 +88,19 @@ returns-6 : tie.Need-returns-6
 returns-6 c = at-type _ (c .before .match .keys6) (c .read-addr .ensures)
 
 returns-7 : tie.Need-returns-7
-unfolding fieldsOf row rows inventoryOf listKind
-returns-7 c = at-type (c .before .before .before .args .payload .now) (c .before .match .keys7) (c .read-inventory .ensures)
+returns-7 c = at-type _ (c .before .match .keys7) (c .read-inv .ensures)
 
 returns-8 : tie.Need-returns-8
-unfolding fieldsOf row rows inventoryOf listKind
-returns-8 c = at-type (c .before .before .before .args .payload .now) (c .before .match .keys8) (c .read-inventory2 .ensures)
+returns-8 c = at-type _ (c .before .match .keys8) (c .read-getdata .ensures)
 
 returns-9 : tie.Need-returns-9
-unfolding fieldsOf row rows inventoryOf listKind
-returns-9 c = at-type (c .before .before .before .args .payload .now) (c .before .match .keys9) (c .read-inventory3 .ensures)
+returns-9 c = at-type _ (c .before .match .keys9) (c .read-notfound .ensures)
 
 returns-10 : tie.Need-returns-10
-unfolding fieldsOf row rows locatorOf locatorKind
-returns-10 c = at-type (c .before .before .before .args .payload .now) (c .before .match .keys10) (c .read-locator .ensures)
+returns-10 c = at-type _ (c .before .match .keys10) (c .read-getblocks .ensures)
 
 returns-11 : tie.Need-returns-11
-unfolding fieldsOf row rows locatorOf locatorKind
-returns-11 c = at-type (c .before .before .before .args .payload .now) (c .before .match .keys11) (c .read-locator2 .ensures)
+returns-11 c = at-type _ (c .before .match .keys11) (c .read-getheaders .ensures)
 
 returns-12 : tie.Need-returns-12
 returns-12 c = at-type _ (c .before .match .keys12) (c .read-headers .ensures)
@@ -191,11 +185,11 @@ read-fields-spec =
     read-pong-requires
     close-requires-2
     read-addr-requires
-    read-inventory-requires
-    read-inventory-requires-2
-    read-inventory-requires-3
-    read-locator-requires
-    read-locator-requires-2
+    read-inv-requires
+    read-getdata-requires
+    read-notfound-requires
+    read-getblocks-requires
+    read-getheaders-requires
     read-headers-requires
     close-requires-3
     read-reject-requires
