@@ -1,6 +1,7 @@
 /* The proved Handshake codec for C: numbers and bytes in, rows of six numbers out.
  *
- * Link with libhns_ffi.a, which `rt staticlib hns_ffi` writes.
+ * Link with libhns_ffi.a, and for frames and the stream with libhns_ffi_frames.a as well:
+ * `rt staticlib hns_ffi` and `rt staticlib hns_ffi_frames` write them.
  *
  * What the caller must see to, since no proof reaches beyond the call:
  *

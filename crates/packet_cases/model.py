@@ -239,11 +239,22 @@ def words(*parts):
     return " ".join(str(p) for p in parts if str(p) != "")
 
 
+def filled(rest):
+    """What a long case is about: how many of the bytes given stand before the zeros, how
+    many zeros, the bytes given."""
+    before = int.from_bytes(rest[:8], "little")
+    zeros = int.from_bytes(rest[8:16], "little")
+    given = rest[16:]
+    return given[:before] + bytes(zeros) + given[before:]
+
+
 def answer(line):
     data = bytes.fromhex(line)
     operation, kind = data[0], data[1]
     n = int.from_bytes(data[2:10], "little")
     rest = data[10:]
+    if operation >= 4:                 # 4 to 7 are 0 to 3, of a long case
+        operation, rest = operation - 4, filled(rest)
     if operation == 0:
         out = bytearray(b"\xaa" * n)
         try:
@@ -320,6 +331,18 @@ class Build:
 
     def text(self, some):
         return self.number(len(some), 1).put(some)
+
+
+class Long:
+    """Bytes, zeros, bytes: what a short line gives of a payload of any length."""
+
+    def __init__(self, front, zeros, back=b""):
+        self.front, self.zeros, self.back = front, zeros, back
+        self.length = len(front) + zeros + len(back)
+
+    def rest(self):
+        return (len(self.front).to_bytes(8, "little") + self.zeros.to_bytes(8, "little")
+                + self.front + self.back)
 
 
 def blob(tag, length):
@@ -428,14 +451,32 @@ def hand_checks():
     same(op(0, 24, 0, X(zeros32 + "02" + "fdffff" + "00")), "refused 9 0 0 0 text")
     same(op(1, 6, 2, X("02" + ("01000000" + zeros32) * 2)), "refused 19 0 0 0")
     same(op(1, 6, 1, X("02" + ("01000000" + zeros32) * 2)), "inventory 1 41")
-    # Row 5, which no line can be long enough for.
+    # Row 5, by long cases, whose lines leave zeros out.
+    def long(operation, kind, n, front, zeros, back=""):
+        return op(operation + 4, kind, n, Long(X(front), zeros, X(back)).rest())
+
+    same(long(0, 2, 0, "01", 5, "0203"), "ping %d text" % (1 + (2 << 48) + (3 << 56)))
+    same(filled(Long(b"ab", 3, b"c").rest()), b"ab\0\0\0c")
     for kind in (1, 13, 30, 6):
-        try:
-            read_packet(kind, bytes(8_000_001), bytearray())
-            assert False
-        except Refused as refusal:
-            same(refusal.line, "refused 5 8000001 8000000 0")
-    same(read_packet(255, bytes(8_000_000), bytearray()).values, [255, 0, 8_000_000])
+        same(long(0, kind, 0, "", 8_000_001), "refused 5 8000001 8000000 0 text")
+    same(long(1, 6, 0, "02", 8_000_000), "refused 5 8000001 8000000 0")
+    same(long(2, 6, 0, zeros32, 8_000_001), "refused 5 8000001 8000000 0")
+    same(long(3, 24, 1, zeros32, 7_999_969), "refused 5 8000001 8000000 0 rest 7")
+    same(long(0, 255, 0, "", 8_000_000), "raw 255 0 8000000 text")
+    same(long(0, 1, 0, "", 8_000_000), "refused 3 8000000 0 0 text")
+    # Lists of 50,000 (c350) and 2,000 (07d0), their items from place 3 on: 3 + 36 x 49,999
+    # and the kind, 3 + 32 x 49,999 and 3 + 32 x 50,000, 3 + 236 x 1,999.
+    same(long(0, 6, 0, "fd50c3", 1_800_000), "inv 50000 3 text")
+    same(long(1, 6, 49_999, "fd50c3", 1_800_000), "inventory 0 1799971")
+    same(long(1, 6, 50_000, "fd50c3", 1_800_000), "refused 19 0 0 0")
+    same(long(2, 6, 0, "11" * 32 + "fd50c3", 1_799_968, "11" * 32), "found")
+    same(long(2, 6, 0, "11" * 32 + "fd50c3", 1_799_967, "11" * 32 + "00"), "nowhere")
+    same(long(0, 9, 0, "fd50c3", 1_600_032), "getblocks 50000 3 1600003 text")
+    same(long(1, 9, 49_999, "fd50c3", 1_600_032), "hash 1599971")
+    same(long(0, 11, 0, "fdd007", 472_000), "headers 2000 3 text")
+    same(long(1, 11, 1_999, "fdd007", 472_000), "header 471767")
+    same(long(0, 6, 0, "fd50c3", 1_799_999), "refused 1 1799971 1 0 text")
+    same(long(0, 6, 0, "fd51c3", 1_800_036), "refused 7 50001 50000 2 text")
     # Row 7's other codes, from the list of limits: counts of 50,001 (c351), 2,001 (07d1),
     # 16,663 (4117), an index of 65,536.
     same(op(0, 7, 0, X("fd51c3")), "refused 7 50001 50000 2 text")
@@ -515,7 +556,7 @@ def hand_checks():
 # ---------------------------------------------------------------------------
 
 LINES = []
-SEEN = set()
+ANSWERS = {}         # of each line
 GROUPS = []          # [name, first line (from 1), count]
 
 
@@ -524,16 +565,19 @@ def group(name):
 
 
 def case(operation, kind, n, rest):
-    rest = rest.data if isinstance(rest, Build) else rest
     assert operation != 0 or n <= 300
     assert operation != 3 or (n <= 40 and kind == 24)
+    if isinstance(rest, Long):
+        assert 0 < rest.length <= 8_000_001 + (32 if operation == 2 else 0)
+        operation, rest = operation + 4, rest.rest()
+    rest = rest.data if isinstance(rest, Build) else rest
     line = line_of(operation, kind, n, rest)
-    assert len(line) <= 180_000, (operation, kind, len(line))
-    if line not in SEEN:               # a line that another group has already is left out
-        SEEN.add(line)
+    assert len(line) <= 40_000, (operation, kind, len(line))
+    if line not in ANSWERS:            # a line that another group has already is left out
+        ANSWERS[line] = answer(line)
         LINES.append(line)
         GROUPS[-1][2] += 1
-    return answer(line)
+    return ANSWERS[line]
 
 
 def read(kind, rest, n=0):
@@ -545,6 +589,8 @@ def get(kind, rest, place):
 
 
 def seek(kind, rest, wanted):
+    if isinstance(rest, Long):
+        return case(2, kind, 0, Long(wanted + rest.front, rest.zeros, rest.back))
     return case(2, kind, 0, wanted + (rest.data if isinstance(rest, Build) else rest))
 
 
@@ -555,6 +601,9 @@ def idx(rest, n):
 LISTS = (5, 6, 7, 8, 9, 10, 11, 24)
 LIST_CODE = {5: ADDRESS, 6: INVENTORY, 7: INVENTORY, 8: INVENTORY, 9: LOCATOR, 10: LOCATOR,
              11: HEADER, 24: INDEX_COUNT}
+# Bytes of an item, and the greatest lengths of the card.
+WIDTH = {5: 88, 6: 36, 7: 36, 8: 36, 9: 32, 10: 32, 11: 236}
+GREATEST = {5: 88_003, 6: 1_800_003, 7: 1_800_003, 8: 1_800_003, 9: 1_600_035, 10: 1_600_035, 11: 472_003}
 TEXT_BYTES = bytes(range(1, 256))      # 255 bytes, half of them with the top bit set
 
 
@@ -577,6 +626,15 @@ def bare_list(kind, claim, width=None, behind=b""):
     if kind == 24:
         b.put(h("block"))
     return b.compact(claim, width).put(behind).data
+
+
+def long_list(kind, count, claim=None, back=None):
+    """A list of `count` items behind the count `claim`, zeros but for the first item and the
+    last; what stands from the last on may be given."""
+    front = bare_list(kind, count if claim is None else claim, behind=blob("first", WIDTH[kind]))
+    if back is None:
+        back = blob("last", WIDTH[kind]) + (h("stop") if kind in (9, 10) else b"")
+    return Long(front, WIDTH[kind] * (count - 2), back)
 
 
 def least(kind):
@@ -683,12 +741,46 @@ def cases():
         read(kind, blob("raw long", 300))
     read(13, blob("block", 5990))
 
-    # -- Lists as long as they may be, where a line of the file can hold them.
+    # -- Lists as long as they may be, an item shorter and longer, and a byte shorter and longer.
     group("lists at their limit")
-    at_limit = b"\xfd\xe8\x03" + bytes(88 * 1_000)
-    read(5, at_limit)
-    for place in (0, 999, 1_000):
-        get(5, at_limit, place)
+    for kind in WIDTH:
+        limit, width = LIMIT[LIST_CODE[kind]], WIDTH[kind]
+        full, under, over = [long_list(kind, limit + more) for more in (0, -1, 1)]
+        assert full.length == GREATEST[kind]
+        assert not read(kind, full).startswith("refused")
+        for place in (0, 1, limit - 1, limit, 2 ** 64 - 1):
+            assert (get(kind, full, place) == "refused 19 0 0 0") == (place >= limit)
+        assert not read(kind, under).startswith("refused")
+        for place in (limit - 2, limit - 1):
+            assert (get(kind, under, place) == "refused 19 0 0 0") == (place >= limit - 1)
+        want = "refused 7 %d %d %d" % (limit + 1, limit, LIST_CODE[kind])
+        assert read(kind, over) == want + " text"
+        assert get(kind, over, 0) == get(kind, over, limit) == want
+        last = 236 if kind == 11 else 33 if kind == 5 else 32      # bytes of the last read
+        for payload, want in (
+                (long_list(kind, limit, back=full.back[:-1]), "refused 1 %d 1 0" % (full.length - last)),
+                (long_list(kind, limit, back=full.back + b"\x00"), "refused 3 1 0 0"),
+                (long_list(kind, limit - 1, claim=limit), "refused 1 "),
+                (long_list(kind, limit + 1, claim=limit), "refused 3 %d 0 0" % width)):
+            assert read(kind, payload).startswith(want)
+            if kind in (5, 6, 9, 11):                              # one type of each form
+                assert get(kind, payload, limit).startswith(want)
+                assert seek(kind, payload, full.front[-32:]).startswith(want)
+    group("finder, lists at their limit")
+    for kind in WIDTH:
+        limit = LIMIT[LIST_CODE[kind]]
+        full, over = long_list(kind, limit), long_list(kind, limit + 1)
+        for wanted in (full.front[-32:], full.back[-32:], bytes(32)):
+            assert seek(kind, full, wanted) == ("found" if kind in (6, 7, 8) else "nowhere")
+            assert seek(kind, over, wanted).startswith("refused 7 ")
+        assert seek(kind, full, h("other")) == "nowhere"
+        plain = Long(bare_list(kind, limit), GREATEST[kind] - 3)
+        for wanted in (full.front[-32:], full.back[-32:]):         # nothing of an earlier line is left
+            assert seek(kind, plain, wanted) == "nowhere"
+    full = long_list(8, 50_000)
+    for near in (full.front[-33:-1], full.back[-33:-1], full.back[-31:] + b"\x00", b"\x00" + full.back[-32:-1]):
+        assert seek(8, full, near) == "nowhere"
+    group("index lists at their limit")
     most = getblocktxn([0] * 16_662)
     read(24, most)
     for place in (0, 16_661, 16_662):
@@ -698,6 +790,42 @@ def cases():
     read(24, getblocktxn([1] * 16_662))
     read(24, getblocktxn([48_874] + [0] * 16_661))
     read(24, getblocktxn([48_873] + [0] * 16_661))
+    under = Long(bare_list(24, 16_661), 16_661)
+    assert read(24, under) == "getblocktxn 0 16661 35 text"
+    for place in (16_660, 16_661):
+        get(24, under, place)
+    longest = Long(getblocktxn([253] * 193, claim=16_662).data, 16_662 - 193)
+    assert longest.length == 17_083
+    assert read(24, longest) == "getblocktxn 0 16662 35 text"
+    for place in (16_661, 16_662):
+        get(24, longest, place)
+    idx(longest, 40)
+
+    # -- The limit of a payload: a byte over it gives 5, whatever the type and the bytes, and before any other refusal.
+    group("payload limit")
+    for kind in range(256):
+        assert read(kind, Long(b"", 8_000_001)) == "refused 5 8000001 8000000 0 text"
+        got = read(kind, Long(b"", 8_000_000))
+        assert got == "raw %d 0 8000000 text" % kind if kind in RAW else got.startswith("refused 3 "), got
+    for kind in (0, 1, 2, 5, 6, 7, 8, 9, 10, 11, 13, 15, 17, 24, 26, 30, 255):
+        for payload in (Long(b"", 8_000_001), Long(b"\x01", 8_000_000), Long(b"\x02", 7_999_998, b"\xff\xff")):
+            assert payload.length == 8_000_001
+            assert get(kind, payload, 0) == "refused 5 8000001 8000000 0"
+            assert seek(kind, payload, zeros) == "refused 5 8000001 8000000 0"
+        get(kind, Long(b"", 8_000_000), 0)
+        seek(kind, Long(b"", 8_000_000), zeros)
+        read(kind, Long(b"", 7_999_999), 2)
+    for n in (0, 2):
+        assert idx(Long(b"", 8_000_001), n).startswith("refused 5 8000001 8000000 0 rest")
+        assert idx(Long(b"", 8_000_000), n).startswith("refused 3 7999967 0 0 rest")
+    for kind, front, n, number in (
+            (5, b"\xfd\xe9\x03", 0, 7), (6, b"\xfd\x51\xc3", 0, 7), (9, b"\xfd\x51\xc3", 0, 7), (11, b"\xfd\xd1\x07", 0, 7),
+            (24, zeros + b"\xfd\x17\x41", 0, 7), (24, zeros + b"\x01\xfe\x00\x00\x01\x00", 0, 7), (6, b"\xfd\x0a\x00", 0, 2),
+            (24, zeros + b"\x02\xfd\xff\xff\x00", 0, 9), (5, b"\xfd\xe8\x03", 0, 3), (6, b"\xfd\x50\xc3", 0, 3),
+            (10, b"\xfd\x50\xc3", 0, 3), (11, b"\xfd\xd0\x07", 0, 3), (0, version(b"agent").data, 2, 3),
+            (15, b"\x02\x11\x02hi", 1, 3)):
+        assert read(kind, Long(front, 8_000_001 - len(front)), n).startswith("refused 5 8000001 8000000 0 ")
+        assert read(kind, Long(front, 8_000_000 - len(front)), n).startswith("refused %d " % number)
 
     # -- The empty types with bytes behind.
     group("empty types with bytes")
@@ -1188,8 +1316,8 @@ def main(check):
     here = os.path.dirname(os.path.abspath(__file__))
     answers = []
     for line in LINES:
-        assert re.fullmatch(r"[0-9a-f]{20,180000}", line)
-        got = answer(line)
+        assert re.fullmatch(r"[0-9a-f]{20,40000}", line)
+        got = ANSWERS[line]
         assert re.fullmatch(r"[a-z0-9 -]+", got) and "  " not in got and got == got.strip()
         answers.append(got)
     for name, content in (("stdin", LINES), ("stdout", answers)):

@@ -13,7 +13,8 @@ use Rattle.hns_encoding.proofs.Numbers.{lt-or-ge}
 use Rattle.hns_encoding.proofs.Blocks.{block}
 use Rattle.hns_p2p_types.specs.declared.Packet.{Packet}
 use Rattle.hns_p2p_types.specs.Packets.{answered}
-use Rattle.hns_p2p_blocks.specs.Blocks.{blockEnd, gate}
+use Rattle.hns_p2p_blocks.specs.Blocks.{gate}
+use Rattle.hns_p2p_blocks.specs.Helpers.{blockEnd}
 
 gate-same : (ws s : List ℕ) (p q : Packet) → (sum ws ≡ length s → p ≡ q) → gate (blockEnd ws s) p ≡ gate (blockEnd ws s) q
 unfolding blockEnd endAt

@@ -12,7 +12,8 @@ use Rattle.hns_encoding.specs.Bytes.{left, endAt}
 use Rattle.hns_encoding.specs.Format.{sum, short}
 use Rattle.hns_p2p_types.specs.declared.Packet.{Packet}
 use Rattle.hns_p2p_types.specs.declared.Packet.the-variants as P
-use Rattle.hns_p2p_blocks.specs.Blocks.{blockEnd, gate}
+use Rattle.hns_p2p_blocks.specs.Blocks.{gate}
+use Rattle.hns_p2p_blocks.specs.Helpers.{blockEnd}
 
 -- the widths from the i-th on
 module _ (ws : List ℕ) (i p there : ℕ) (h : i < length ws) where

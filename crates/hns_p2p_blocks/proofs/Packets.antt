@@ -16,7 +16,8 @@ use Rattle.hns_p2p_types.specs.declared.Hash.the-variants as H
 use Rattle.hns_p2p_types.specs.declared.NetAddress.{NetAddress}
 use Rattle.hns_p2p_types.specs.Protocol.{version, reject, carriesHash}
 use Rattle.hns_p2p_types.specs.Packets.{addressIn, versionPacket, rejectPacket, row, rows}
-use Rattle.hns_p2p_blocks.specs.Blocks.{blockEnd, gate}
+use Rattle.hns_p2p_blocks.specs.Blocks.{gate}
+use Rattle.hns_p2p_blocks.specs.Helpers.{blockEnd}
 use Rattle.hns_p2p_types.specs.Packets.{fieldsOf}
 use Rattle.hns_p2p_blocks.proofs.Addresses.{address-is}
 use Rattle.hns_p2p_blocks.proofs.Blocks.{gated-by}

@@ -13,7 +13,8 @@ ghost use mathlib.Core.List.{[], _∷_};
 ghost use Rattle.hns_encoding.specs.Bytes.{choose, left, endAt};
 ghost use Rattle.hns_encoding.specs.Format.{sum, short};
 ghost use Rattle.hns_p2p_types.specs.Packets.{signed, fieldsOf, addressIn};
-ghost use Rattle.hns_p2p_blocks.specs.Blocks.{blockEnd, gate};
+ghost use Rattle.hns_p2p_blocks.specs.Blocks.{gate};
+ghost use Rattle.hns_p2p_blocks.specs.Helpers.{blockEnd};
 
 // Where the bytes from a place on end, of reads of these widths.
 pub fn ends_in(payload: &[u8], widths: &[usize], at: usize) -> Refusal

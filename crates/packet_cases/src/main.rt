@@ -2,7 +2,9 @@
 // the file stdout has the answers of model.py, which was written from document 01.
 //
 // A case is what is asked, the packet type, a number of eight bytes, and the rest: the payload, after 32 bytes of a hash
-// where one is to be found.
+// where one is to be found. What is asked is 0 to 3. From 4 on the case is long: the same is asked, and the rest has zeros
+// that the line leaves out, so that a short line has a payload of megabytes. Two numbers of eight bytes come before its
+// bytes: how many of these stand before the zeros, and how many zeros there are.
 use hns_encoder::Encoder;
 use hns_p2p_types::Found;
 use hns_p2p_types::Hash;
@@ -18,8 +20,14 @@ use hns_refusals::Refusal;
 
 const FRONT: usize = 10;
 
+// The two numbers of a long case.
+const LONG_FRONT: usize = 16;
+
 // Bytes of a case.
-const ROOM: usize = 90_000;
+const ROOM: usize = 20_000;
+
+// Bytes of a long case's rest: a hash, and a payload one byte over the limit. The stack of 8 MB has room for one of these.
+const LONG_ROOM: usize = 8_000_033;
 
 fn text(t: &[u8]) {
     io::write_all(1, t);
@@ -268,14 +276,7 @@ fn ask_indexes(payload: &[u8], out: &mut [u64]) {
     numbers(out, stored);
 }
 
-fn answer(case: &[u8]) {
-    if case.len() < FRONT {
-        return;
-    }
-    let asked = hns_encoding::u8_at(case, 0);
-    let packet_type = hns_encoding::u8_at(case, 1);
-    let n = hns_encoding::u64_at(case, 2) as usize;
-    let rest = &case[FRONT..];
+fn ask(asked: u8, packet_type: u8, n: usize, rest: &[u8]) {
     if asked == 0 {
         let mut out = [0xaau8; 320];
         if n <= 320 {
@@ -292,7 +293,59 @@ fn answer(case: &[u8]) {
         let hash = hns_encoder::array32_at(rest, 0);
         ask_find(packet_type, &rest[32..], hash);
     }
-    text(b"\n");
+}
+
+fn clear(bytes: &mut [u8], from: usize, to: usize) {
+    let mut i = from;
+    while i < to {
+        if bytes.len() <= i {
+            return;
+        }
+        bytes[i] = 0;
+        i += 1;
+    }
+}
+
+// `long` is zeros: the bytes given are put there for the question, and cleared again, so that no case has to write
+// megabytes. Nothing is asked where the two numbers do not fit what is there.
+fn ask_long(asked: u8, packet_type: u8, n: usize, rest: &[u8], long: &mut [u8]) {
+    if rest.len() < LONG_FRONT {
+        return;
+    }
+    let before = hns_encoding::u64_at(rest, 0) as usize;
+    let zeros = hns_encoding::u64_at(rest, 8) as usize;
+    let given = &rest[LONG_FRONT..];
+    if given.len() < before {
+        return;
+    }
+    if long.len() < given.len() {
+        return;
+    }
+    if long.len() - given.len() < zeros {
+        return;
+    }
+    let end = before + zeros;
+    let size = given.len() + zeros;
+    Encoder::new().put_bytes(long, hns_encoding::first(given, before));
+    Encoder { position: end }.put_bytes(long, &given[before..]);
+    ask(asked, packet_type, n, hns_encoding::first(long, size));
+    clear(long, 0, before);
+    clear(long, end, size);
+}
+
+fn answer(case: &[u8], long: &mut [u8]) {
+    if case.len() < FRONT {
+        return;
+    }
+    let asked = hns_encoding::u8_at(case, 0);
+    let packet_type = hns_encoding::u8_at(case, 1);
+    let n = hns_encoding::u64_at(case, 2) as usize;
+    let rest = &case[FRONT..];
+    if asked < 4 {
+        ask(asked, packet_type, n, rest);
+        return;
+    }
+    ask_long(asked - 4, packet_type, n, rest, long);
 }
 
 // A hexadecimal digit after the ones before it: two make a byte.
@@ -305,9 +358,10 @@ fn take_digit(case: &mut [u8], n: usize, digit: u8) {
 }
 
 // Takes a byte of a line after n digits, and answers how many there are then: no line has more than there is room for.
-fn take(case: &mut [u8], n: usize, byte: u8) -> usize {
+fn take(case: &mut [u8], n: usize, byte: u8, long: &mut [u8]) -> usize {
     if byte == 10 {
-        answer(hns_encoding::first(case, n / 2));
+        answer(hns_encoding::first(case, n / 2), long);
+        text(b"\n");
         return 0;
     }
     take_digit(case, n, byte);
@@ -315,18 +369,18 @@ fn take(case: &mut [u8], n: usize, byte: u8) -> usize {
 }
 
 // The lines of a part of the input: n digits of a line came before it, and how many stand after it.
-fn answers(lines: &[u8], case: &mut [u8], n: usize) -> usize {
+fn answers(lines: &[u8], case: &mut [u8], n: usize, long: &mut [u8]) -> usize {
     let mut digits = n;
     let mut i: usize = 0;
     while i < lines.len() {
-        digits = take(case, digits, lines[i]);
+        digits = take(case, digits, lines[i], long);
         i += 1;
     }
     digits
 }
 
 // At most 100 parts of the input, which is far more than the file has.
-fn run(lines: &mut [u8], case: &mut [u8]) {
+fn run(lines: &mut [u8], case: &mut [u8], long: &mut [u8]) {
     let mut digits: usize = 0;
     let mut parts: usize = 100;
     while 0 < parts {
@@ -334,7 +388,7 @@ fn run(lines: &mut [u8], case: &mut [u8]) {
         if size == 0 {
             return;
         }
-        digits = answers(hns_encoding::first(lines, size), case, digits);
+        digits = answers(hns_encoding::first(lines, size), case, digits, long);
         parts -= 1;
     }
 }
@@ -342,5 +396,6 @@ fn run(lines: &mut [u8], case: &mut [u8]) {
 fn main() {
     let mut lines = io::large_buffer();
     let mut case = [0u8; ROOM];
-    run(&mut lines, &mut case);
+    let mut long = [0u8; LONG_ROOM];
+    run(&mut lines, &mut case, &mut long);
 }

@@ -100,9 +100,9 @@ fn show_header(kind: u8, bytes: &[u8], a: usize) {
 
 fn frame(kind: u8, network: u8, bytes: &[u8], a: u64, out: &mut [u8], answer: &mut [u64]) {
     match kind {
-        19 => hns_ffi::hns_decode_frame_prefix(network, bytes, answer),
-        20 => hns_ffi::hns_decode_exact(network, bytes, answer),
-        _ => hns_ffi::hns_encode_frame(network, (a % 256) as u8, bytes, out, answer),
+        19 => hns_ffi_frames::hns_decode_frame_prefix(network, bytes, answer),
+        20 => hns_ffi_frames::hns_decode_exact(network, bytes, answer),
+        _ => hns_ffi_frames::hns_encode_frame(network, (a % 256) as u8, bytes, out, answer),
     }
 }
 
@@ -127,7 +127,7 @@ fn push(
         return;
     }
     hns_ffi::hns_put_bytes(hns_encoding::first(bytes, a), store, 0);
-    hns_ffi::hns_push(network, store, a, &bytes[a..], output, answer);
+    hns_ffi_frames::hns_push(network, store, a, &bytes[a..], output, answer);
 }
 
 // Its row, the held bytes, and the output.

@@ -38,7 +38,7 @@ fn main() -> ExitCode {
         eprintln!("usage: compare [--short] [--count N] [--seed S]");
         return ExitCode::from(2);
     };
-    println!("{}", hns_port::LIBRARY);
+    println!("{}", hns_port::LIBRARIES);
     println!("seed {}", options.seed);
     let mut run = Run::default();
     let begun = Instant::now();

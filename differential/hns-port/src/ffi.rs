@@ -1,4 +1,4 @@
-//! The functions of libhns_ffi.a, as crates/hns_ffi/hns_ffi.h has them.
+//! The functions of libhns_ffi.a and libhns_ffi_frames.a, as crates/hns_ffi/hns_ffi.h has them.
 
 unsafe extern "C" {
     pub fn hns_read_u8(

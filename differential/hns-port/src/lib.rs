@@ -19,8 +19,8 @@ pub use frame::{
 };
 pub use header::{HASHES_SIZE, HEADER_SIZE, Header};
 
-/// The library that was linked.
-pub const LIBRARY: &str = env!("HNS_FFI_LIBRARY");
+/// The folder of the libraries that were linked.
+pub const LIBRARIES: &str = env!("HNS_FFI_LIBRARIES");
 
 /// A refusal by its number and its values, 0 where it has none.
 #[derive(Clone, Copy, Debug, Eq, Hash, PartialEq)]

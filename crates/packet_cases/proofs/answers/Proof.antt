@@ -6,10 +6,10 @@ use Rattle.packet_cases.proofs.answers.Statement.{statement}
 use Rattle.packet_cases.proofs.answers.Tie as tie
 
 abbrev Inv-loop : tie.InvT-loop
-Inv-loop lines case₀ n digits₀ i₀ case digits i = (i ≤ length lines) × (length case ≡ length case₀)
+Inv-loop lines case₀ n long₀ digits₀ i₀ case long digits i = (i ≤ length lines) × ((length case ≡ length case₀) × (length long ≡ length long₀))
 
 abbrev μ-loop : tie.MeasureT-loop
-μ-loop lines case₀ n digits₀ i₀ case digits i = length lines - i
+μ-loop lines case₀ n long₀ digits₀ i₀ case long digits i = length lines - i
 
 loop-holds : tie.Need-loop-holds Inv-loop μ-loop
 loop-holds c = search needs
@@ -32,6 +32,9 @@ loop-again c = search needs
 same-length : tie.Need-same-length Inv-loop μ-loop
 same-length c = search needs
 
+same-length-2 : tie.Need-same-length-2 Inv-loop μ-loop
+same-length-2 c = search needs
+
 returns : tie.Need-returns Inv-loop μ-loop
 returns c = search needs
 
@@ -48,4 +51,5 @@ answers-spec =
     loop-less
     loop-again
     same-length
+    same-length-2
     returns)

@@ -5,10 +5,10 @@ use Rattle.packet_cases.proofs.run.Statement.{statement}
 use Rattle.packet_cases.proofs.run.Tie as tie
 
 abbrev Inv-loop : tie.InvT-loop
-Inv-loop lines₀ case₀ digits₀ parts₀ lines case digits parts = (length lines ≡ length lines₀) × (length case ≡ length case₀)
+Inv-loop lines₀ case₀ long₀ digits₀ parts₀ lines case long digits parts = (length lines ≡ length lines₀) × ((length case ≡ length case₀) × (length long ≡ length long₀))
 
 abbrev μ-loop : tie.MeasureT-loop
-μ-loop lines₀ case₀ digits₀ parts₀ lines case digits parts = parts
+μ-loop lines₀ case₀ long₀ digits₀ parts₀ lines case long digits parts = parts
 
 loop-holds : tie.Need-loop-holds Inv-loop μ-loop
 loop-holds c = search needs
@@ -21,6 +21,9 @@ same-length c = search needs
 
 same-length-2 : tie.Need-same-length-2 Inv-loop μ-loop
 same-length-2 c = search needs
+
+same-length-3 : tie.Need-same-length-3 Inv-loop μ-loop
+same-length-3 c = search needs
 
 returns : tie.Need-returns Inv-loop μ-loop
 returns c = search needs
@@ -40,11 +43,14 @@ loop-less c = search needs
 loop-again : tie.Need-loop-again Inv-loop μ-loop
 loop-again c = search needs
 
-same-length-3 : tie.Need-same-length-3 Inv-loop μ-loop
-same-length-3 c = search needs
-
 same-length-4 : tie.Need-same-length-4 Inv-loop μ-loop
 same-length-4 c = search needs
+
+same-length-5 : tie.Need-same-length-5 Inv-loop μ-loop
+same-length-5 c = search needs
+
+same-length-6 : tie.Need-same-length-6 Inv-loop μ-loop
+same-length-6 c = search needs
 
 returns-2 : tie.Need-returns-2 Inv-loop μ-loop
 returns-2 c = search needs
@@ -59,12 +65,14 @@ run-spec =
     read-full-requires
     same-length
     same-length-2
+    same-length-3
     returns
     first-requires
     answers-requires
     sub-parts
     loop-less
     loop-again
-    same-length-3
     same-length-4
+    same-length-5
+    same-length-6
     returns-2)

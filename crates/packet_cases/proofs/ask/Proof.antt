@@ -2,29 +2,8 @@ use mathlib.Core.Path.{sym}
 use native.Mathlib.Omega.{arith}
 use lib.Seq.{length-take-le}
 use borrow.Author.Needs.{needs}
-use Rattle.packet_cases.proofs.answer.Statement.{statement}
-use Rattle.packet_cases.proofs.answer.Tie as tie
-
-returns : tie.Need-returns
-returns c = search needs
-
-u8-at-requires : tie.Need-u8-at-requires
-u8-at-requires c κs = search needs
-
-u8-at-requires-2 : tie.Need-u8-at-requires-2
-u8-at-requires-2 c κs = search needs
-
-u64-at-requires : tie.Need-u64-at-requires
-u64-at-requires c κs = search needs
-
-sub-rest : tie.Need-sub-rest
-sub-rest c = search needs
-
-part-rest-start : tie.Need-part-rest-start
-part-rest-start c = search needs
-
-part-rest-end : tie.Need-part-rest-end
-part-rest-end c = search needs
+use Rattle.packet_cases.proofs.ask.Statement.{statement}
+use Rattle.packet_cases.proofs.ask.Tie as tie
 
 array-borrow-prefix-out : tie.Need-array-borrow-prefix-out
 array-borrow-prefix-out c = search needs
@@ -62,26 +41,31 @@ part-ask-find-end c = search needs
 ask-find-requires : tie.Need-ask-find-requires
 ask-find-requires c κs = search needs
 
-slice-aggregate-text : tie.Need-slice-aggregate-text
-slice-aggregate-text c = search needs
-
-text-requires : tie.Need-text-requires
-text-requires c κs = search needs
+returns : tie.Need-returns
+returns c = search needs
 
 returns-2 : tie.Need-returns-2
 returns-2 c = search needs
 
-pub answer-spec : {M : Type 1} → statement M
-answer-spec =
+returns-3 : tie.Need-returns-3
+returns-3 c = search needs
+
+returns-4 : tie.Need-returns-4
+returns-4 c = search needs
+
+returns-5 : tie.Need-returns-5
+returns-5 c = search needs
+
+returns-6 : tie.Need-returns-6
+returns-6 c = search needs
+
+returns-7 : tie.Need-returns-7
+returns-7 c = search needs
+
+pub ask-spec : {M : Type 1} → statement M
+ask-spec =
     tie.close
     (tie.spec
-    returns
-    u8-at-requires
-    u8-at-requires-2
-    u64-at-requires
-    sub-rest
-    part-rest-start
-    part-rest-end
     array-borrow-prefix-out
     slice-aggregate-ask-packet
     ask-packet-requires
@@ -94,6 +78,10 @@ answer-spec =
     part-ask-find-start
     part-ask-find-end
     ask-find-requires
-    slice-aggregate-text
-    text-requires
-    returns-2)
+    returns
+    returns-2
+    returns-3
+    returns-4
+    returns-5
+    returns-6
+    returns-7)
