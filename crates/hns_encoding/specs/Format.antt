@@ -244,3 +244,8 @@ valueAt indexes x s at = absurd x
 valueAt (whole n f) x s at = valueAt f (fixedFlat f (x .1)) (part s at n) 0
 valueAt (tagged k) x s at = (numberAt 1 s at, valueAt (k (numberAt 1 s at)) (x (numberAt 1 s at)) s (at + 1))
 valueAt (f ▸ g) x s at = (valueAt f (x .0) s at, valueAt g (x .1) s (at + sum (widthsAt f s at)))
+
+-- n values of a fixed size from a place on, one after another
+unfoldable pub valuesAt : (f : Format) → Fixed f → ℕ → List ℕ → ℕ → List (Value f)
+valuesAt f x zero s at = []
+valuesAt f x (suc n) s at = valueAt f (fixedFlat f x) s at ∷ valuesAt f x n s (at + size f)

@@ -13,7 +13,7 @@ use denote.Enum.Declared.{tagOf}
 use types.Run.{OneOf, miss}
 use Rattle.hns_refusals.specs.declared.Refusal.{Refusal}
 use Rattle.hns_encoding.specs.Bytes.{part, Bytes, Outcome, got, stop}
-use Rattle.hns_encoding.specs.Format.{Format, Value, Fixed}
+use Rattle.hns_encoding.specs.Format.{Format, Value, Fixed, valuesAt}
 use Rattle.hns_encoding.proofs.Numbers.{lt-or-ge, part-length}
 use Rattle.hns_p2p_types.specs.Protocol.{inventoryItem}
 use Rattle.hns_p2p_types.specs.declared.Items.{Items}
@@ -24,7 +24,6 @@ use Rattle.hns_p2p_types.specs.declared.Found.{Found}
 use Rattle.hns_p2p_types.specs.declared.Found.the-variants as F
 use Rattle.hns_p2p_types.specs.declared.Item.{Item}
 use Rattle.hns_p2p_types.specs.declared.Item.the-variants as I
-use Rattle.hns_p2p_lists.specs.Lists.{valuesAt}
 use Rattle.hns_p2p_items.specs.Items.{Element, anInventory, anIndex, Listed, listedOf, Stands, key-there, hash-there, bytes-there, header-there, index-there}
 use Rattle.hns_p2p_items.specs.Listings.{listingOf, Records, Holds, HeldBy}
 use Rattle.hns_p2p_items.proofs.Held.{held-by, refused-held}

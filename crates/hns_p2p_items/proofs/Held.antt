@@ -6,12 +6,13 @@ use native.Mathlib.Omega.{arith}
 use lib.ListN.{length, getD, length-map}
 use lib.Dec.{leb}
 use borrow.Author.Tests.{leb-true}
+use Rattle.hns_encoding.proofs.Blocks.{length-values}
 use Rattle.hns_refusals.specs.declared.Refusal.{Refusal}
 use Rattle.hns_refusals.specs.Limits.{maxPayload, blockHeaderSize, maxAddresses, maxInventory, maxLocator, maxHeaders, maxIndexes}
 use Rattle.hns_refusals.specs.Refusals.{addressField, inventoryField, locatorField, headerField, indexCountField}
 use Rattle.hns_encoding.specs.Bytes.{Bytes, Outcome, got, stop, after, left, bytesAt, toEnd}
 use Rattle.hns_encoding.specs.Compact.{compactBytes, countAt}
-use Rattle.hns_encoding.specs.Format.{Format, raw, counted, indexes, whole, Value, read, many, indexesFrom, widths, size, Fixed, All}
+use Rattle.hns_encoding.specs.Format.{Format, raw, counted, indexes, whole, Value, read, many, indexesFrom, widths, size, Fixed, All, valuesAt}
 use Rattle.hns_encoding.proofs.Outcomes.{after-got, choose-got, bytes-got, toEnd-got, count-got}
 use Rattle.hns_encoding.proofs.Forward.{compact-got}
 use Rattle.hns_header_consensus.specs.Layout.{header}
@@ -20,9 +21,8 @@ use Rattle.hns_p2p_types.specs.declared.Listing.{Listing}
 use Rattle.hns_p2p_types.specs.declared.Listing.the-variants as L
 use Rattle.hns_p2p_types.specs.declared.Packet.the-variants as P
 use Rattle.hns_p2p_types.specs.Packets.{Row, rows, rawBytes, row, layout, answered, packetOf, itemsAt, _&_, entry}
-use Rattle.hns_p2p_lists.specs.Lists.{valuesAt}
 use Rattle.hns_p2p_lists.specs.Helpers.{recordsAt}
-use Rattle.hns_p2p_lists.proofs.Lists.{length-values, many-fits, records}
+use Rattle.hns_p2p_lists.proofs.Lists.{many-fits, records}
 use Rattle.hns_p2p_lists.proofs.Listed.{count-place, list-stands}
 use Rattle.hns_p2p_lists.proofs.Requests.{index-count}
 use Rattle.hns_p2p_items.specs.Items.{Element, anAddress, anInventory, aHash, aHeader, Listed, under, items, RowItems, none, rowItems, itemsBy, listedOf}

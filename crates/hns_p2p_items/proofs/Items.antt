@@ -15,12 +15,12 @@ use Rattle.hns_refusals.specs.Limits.{maxPayload, blockHeaderSize, maxIndex}
 use Rattle.hns_refusals.specs.Refusals.{noItem, indexField}
 use Rattle.hns_encoding.specs.Bytes.{part, Bytes, Outcome, got, stop, toEnd}
 use Rattle.hns_encoding.specs.Compact.{countAt}
-use Rattle.hns_encoding.specs.Format.{Format, Value, read, indexesFrom, size, Fixed, fixedFlat, valueAt}
+use Rattle.hns_encoding.specs.Format.{Format, Value, read, indexesFrom, size, Fixed, fixedFlat, valueAt, valuesAt}
 use Rattle.hns_encoding.specs.Answers.{numberOf}
 use Rattle.hns_encoding.specs.declared.Number.the-variants as N
 use Rattle.hns_encoding.proofs.Numbers.{part-length}
 use Rattle.hns_encoding.proofs.Outcomes.{after-got, choose-got, toEnd-fits}
-use Rattle.hns_encoding.proofs.Blocks.{block-fits}
+use Rattle.hns_encoding.proofs.Blocks.{block-fits, length-values}
 use Rattle.hns_header_consensus.specs.Layout.{header}
 use Rattle.hns_p2p_types.specs.declared.Items.{Items}
 use Rattle.hns_p2p_types.specs.declared.Item.{Item}
@@ -32,8 +32,8 @@ use Rattle.hns_p2p_types.specs.declared.Packet.the-variants as P
 use Rattle.hns_p2p_types.proofs.Packet as packets
 use Rattle.hns_p2p_types.proofs.Listing as listings
 use Rattle.hns_p2p_blocks.proofs.Addresses.{address-is}
-use Rattle.hns_p2p_lists.specs.Lists.{valuesAt, passedOf}
-use Rattle.hns_p2p_lists.proofs.Lists.{length-values, value-stands}
+use Rattle.hns_p2p_lists.specs.Lists.{passedOf}
+use Rattle.hns_p2p_lists.proofs.Lists.{value-stands}
 use Rattle.hns_p2p_lists.proofs.Listed.{index-next, indexes-end}
 use Rattle.hns_p2p_lists.proofs.Requests.{index-count}
 use Rattle.hns_p2p_items.specs.Items.{Element, anIndex, Listed, sizeOf, answer, pick, answerAt, itemBy, itemOf, listedOf, Stands, key-there, hash-there, bytes-there, header-there, index-there, ItemsStand}

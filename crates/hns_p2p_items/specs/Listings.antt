@@ -5,7 +5,7 @@ use mathlib.Core.List.{List, [], map}
 use lib.ListN.{length}
 use Rattle.hns_refusals.specs.Limits.{maxPayload, blockHeaderSize, maxIndexes}
 use Rattle.hns_encoding.specs.Bytes.{Bytes, Outcome, got, stop}
-use Rattle.hns_encoding.specs.Format.{Format, raw, whole, Value, indexesFrom, size, Fixed}
+use Rattle.hns_encoding.specs.Format.{Format, raw, whole, Value, indexesFrom, size, Fixed, valuesAt}
 use Rattle.hns_header_consensus.specs.Layout.{header}
 use Rattle.hns_p2p_types.specs.Protocol.{address, inventoryItem}
 use Rattle.hns_p2p_types.specs.declared.Items.{Items}
@@ -14,7 +14,6 @@ use Rattle.hns_p2p_types.specs.declared.Packet.the-variants as P
 use Rattle.hns_p2p_types.specs.declared.Listing.{Listing}
 use Rattle.hns_p2p_types.specs.declared.Listing.the-variants as L
 use Rattle.hns_p2p_types.specs.Packets.{packetOf}
-use Rattle.hns_p2p_lists.specs.Lists.{valuesAt}
 use Rattle.hns_p2p_items.specs.Items.{Element, anAddress, anInventory, aHash, aHeader, anIndex, Listed, listedOf}
 
 unfoldable pub listIn : Packet → Listing

@@ -7,12 +7,13 @@ use native.Mathlib.Nat.{div-add-mod', mod-lt, mul-le-mul-right}
 use lib.ListN.{length}
 use lib.Dec.{leb}
 use borrow.Author.Tests.{le-leb, lt-leb}
+use Rattle.hns_encoding.proofs.Blocks.{length-values}
 use Rattle.hns_refusals.specs.declared.Refusal.{Refusal}
 use Rattle.hns_refusals.specs.Limits.{maxLocator, maxIndex}
 use Rattle.hns_refusals.specs.Refusals.{unexpectedEnd, indexOver, locatorField, indexField}
 use Rattle.hns_encoding.specs.Bytes.{Bytes, Outcome, got, stop, after, left, bytesAt, endAt, toEnd}
 use Rattle.hns_encoding.specs.Compact.{compactBytes, countAt}
-use Rattle.hns_encoding.specs.Format.{Format, raw, counted, _▸_, Value, read, indexesFrom, widths, sum, size, Fixed, short}
+use Rattle.hns_encoding.specs.Format.{Format, raw, counted, _▸_, Value, read, indexesFrom, widths, sum, size, Fixed, short, valuesAt}
 use Rattle.hns_encoding.specs.Answers.{numberOf}
 use Rattle.hns_encoding.specs.declared.Number.{Number}
 use Rattle.hns_encoding.specs.declared.Number.the-variants as N
@@ -29,10 +30,10 @@ use Rattle.hns_p2p_lists.specs.declared.Counted.{Counted}
 use Rattle.hns_p2p_lists.specs.declared.Counted.the-variants as C
 use Rattle.hns_p2p_lists.specs.declared.Passed.the-variants as X
 use Rattle.hns_p2p_blocks.specs.Blocks.{gate}
-use Rattle.hns_p2p_lists.specs.Lists.{valuesAt, passedOf, ListStands}
+use Rattle.hns_p2p_lists.specs.Lists.{passedOf, ListStands}
 use Rattle.hns_p2p_lists.specs.Helpers.{listKind, locatorKind}
 use Rattle.hns_p2p_lists.specs.Helpers.{recordsAt, listAt, countedOf, listPacket, stopPacket}
-use Rattle.hns_p2p_lists.proofs.Lists.{length-values, listed}
+use Rattle.hns_p2p_lists.proofs.Lists.{listed}
 
 -- ---- how `read_list` answers
 

@@ -5,20 +5,14 @@ use mathlib.Core.List.{List, []}
 use mathlib.Core.Logic.{⊎-elim}
 use native.Mathlib.Omega.{arith}
 use native.Mathlib.Nat.{suc-mul, mul-zero, div-add-mod', div-lt-iff-lt-mul, mod-lt}
-use lib.ListN.{length, getD}
+use lib.ListN.{getD}
 use borrow.Author.Tests.{le-leb, lt-leb}
 use Rattle.hns_encoding.specs.Bytes.{Outcome, got, stop, after, left}
 use Rattle.hns_encoding.specs.Compact.{countAt}
-use Rattle.hns_encoding.specs.Format.{Format, counted, Value, read, many, widths, size, Fixed, fixedFlat, short, valueAt}
+use Rattle.hns_encoding.specs.Format.{Format, counted, Value, read, many, widths, size, Fixed, fixedFlat, short, valueAt, valuesAt}
 use Rattle.hns_encoding.proofs.Numbers.{lt-or-ge}
 use Rattle.hns_encoding.proofs.Blocks.{block-fits, block-short}
-use Rattle.hns_p2p_lists.specs.Lists.{valuesAt}
 use Rattle.hns_p2p_lists.specs.Helpers.{recordsAt, listAt}
-
-pub length-values : (f : Format) (x : Fixed f) (n : ℕ) (s : List ℕ) (p : ℕ) → length (valuesAt f x n s p) ≡ n
-unfolding valuesAt
-length-values f x zero s p = refl
-length-values f x (suc n) s p = ap suc (length-values f x n s (p + size f))
 
 -- the k-th of n values stands k sizes on
 pub value-stands : (f : Format) (x : Fixed f) (n : ℕ) (s : List ℕ) (p k : ℕ) (d : Value f) → k < n → getD (valuesAt f x n s p) k d ≡ valueAt f (fixedFlat f x) s (p + k * size f)

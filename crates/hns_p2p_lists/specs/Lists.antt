@@ -1,9 +1,9 @@
 -- Index lists as far as they are passed, and where a list's values stand.
-use Prim.Native.Nat.{ℕ, zero, suc, _+_}
+use Prim.Native.Nat.{ℕ}
 use mathlib.Core.Path.{_≡_}
 use mathlib.Core.List.{List, [], _∷_}
 use Rattle.hns_encoding.specs.Bytes.{Bytes, Outcome, got, stop}
-use Rattle.hns_encoding.specs.Format.{Format, counted, Value, read, size, Fixed, fixedFlat, valueAt}
+use Rattle.hns_encoding.specs.Format.{Format, counted, Value, read, Fixed, valuesAt}
 use Rattle.hns_p2p_types.specs.Packets.{itemsAt}
 use Rattle.hns_p2p_lists.specs.declared.Passed.{Passed}
 use Rattle.hns_p2p_lists.specs.declared.Passed.the-variants as X
@@ -21,11 +21,6 @@ passedOf before (got is next) = X.To next (lastOf before is)
 passedOf before (stop r) = X.Refused r
 
 -- ---- where the values of a list stand
-
--- n values, one after another
-unfoldable pub valuesAt : (f : Format) → Fixed f → ℕ → List ℕ → ℕ → List (Value f)
-valuesAt f x zero s at = []
-valuesAt f x (suc n) s at = valueAt f (fixedFlat f x) s at ∷ valuesAt f x n s (at + size f)
 
 -- `list-stands` of proofs/Listed.antt: the items that a list reads as are what stands from its packet's first place on
 abbrev pub ListStands : Type 0

@@ -1,0 +1,3 @@
+pub mod Rests
+pub mod Differences
+pub mod Items

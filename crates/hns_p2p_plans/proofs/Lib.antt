@@ -1,0 +1,4 @@
+pub mod Tests
+pub mod Compacts
+pub mod Indexes
+pub mod Texts
