@@ -1,0 +1,4 @@
+pub mod Items
+pub mod Plain
+pub mod Calls
+pub mod Records
