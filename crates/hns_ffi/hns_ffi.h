@@ -1,7 +1,7 @@
 /* The proved Handshake codec for C: numbers and bytes in, rows of six numbers out.
  *
- * Link with libhns_ffi.a, and for frames and the stream with libhns_ffi_frames.a as well:
- * `rt staticlib hns_ffi` and `rt staticlib hns_ffi_frames` write them.
+ * Link with libhns_ffi.a, for frames and the stream with libhns_ffi_frames.a as well, and for packets
+ * with libhns_ffi_packets.a: `rt staticlib hns_ffi` writes the first, and so on.
  *
  * What the caller must see to, since no proof reaches beyond the call:
  *
@@ -27,12 +27,36 @@
  *   frame written    0, length of its encoding
  *   push             0, frames, length of their encodings, held count
  *                    refusal, a, b, c, held count
+ *   rewrite          0, length of the payload
+ *
+ * Packets, items, indexes, the finder and the length card have rows of sixteen. A place counts from the
+ * payload's first byte:
+ *
+ *   version (0)      0, version, services, time, the remote's time and services, first and last 8 bytes
+ *                    of its ip as numbers, port, place of its key, nonce, place and length of the agent,
+ *                    height, no-relay
+ *   empty            0
+ *   ping, pong       0, nonce
+ *   lists (5 to 8, 11)        0, count, place of the first item
+ *   locators (9, 10)          0, count, place of the first hash, place of the stop hash
+ *   reject (15)      0, type, code, place and length of the reason, 1 and the place of a hash, or 0
+ *   feefilter (21)   0, the rate's 64 bits
+ *   sendcmpct (22)   0, mode, version
+ *   getblocktxn (24) 0, count, place of the first difference, place of the hash
+ *   getproof (26)    0, place of the root, place of the key
+ *   all others       0, place and length of the bytes
+ *   item             of 5: 0, time, services, first and last 8 bytes of the ip, port, place of the key
+ *                    of 6 to 8: 0, kind, place of the hash; of 9 to 11: 0, place; of 24: 0, index
+ *   indexes          0, how many
+ *   finder           0, 1, place of the item in the list; 0, 0 where the hash stands nowhere
+ *   length card      0, least, greatest
  *
  * Refusals: 1 bytes end in a field (a place, b missing); 2 compact size not shortest (a bits);
  * 3 bytes left (a how many); 4 magic (a expected, b found); 5 payload too large (a, b limit);
  * 6 held and input too large (a, b limit); 7 over a limit (a, b limit); 8 incomplete frame
- * (a missing); 15 header length (a); 16 output too short (a needed); 17 store too short
- * (a needed); 18 held count over the store (a held).
+ * (a missing); 9 index over 65,535; 15 header length (a); 16 output too short (a needed); 17 store
+ * too short (a needed); 18 held count over the store (a held); 19 no item at the place. Of 7, c is
+ * 1 address, 2 inventory, 3 locator, 4 header, 5 index count, 6 index.
  *
  * Networks: 0 mainnet, 1 testnet, 2 regtest, 3 simnet. A greater number is taken as simnet, not refused.
  */
@@ -111,6 +135,24 @@ void hns_encode_frame(uint8_t network, uint8_t packet_type, const uint8_t *paylo
 void hns_push(uint8_t network, uint8_t *store, size_t store_len, size_t held,
               const uint8_t *input, size_t input_len, uint8_t *output, size_t output_len,
               uint64_t *answer, size_t answer_len);
+
+/* Packets. An agent or a reason goes to the front of `text`, each byte without its top bit; 255 bytes
+ * are always enough. */
+void hns_read_packet(uint8_t packet_type, const uint8_t *payload, size_t payload_len,
+                     uint8_t *text, size_t text_len, uint64_t *answer, size_t answer_len);
+/* The item at a place of a list, from 0 on. */
+void hns_item(uint8_t packet_type, const uint8_t *payload, size_t payload_len, size_t place,
+              uint64_t *answer, size_t answer_len);
+/* All indexes of a getblocktxn payload; 16 counts the numbers that `out` must have. */
+void hns_indexes(const uint8_t *payload, size_t payload_len, uint64_t *out, size_t out_len,
+                 uint64_t *answer, size_t answer_len);
+/* A place where a hash of 32 bytes stands among the inventory items. */
+void hns_find(uint8_t packet_type, const uint8_t *payload, size_t payload_len,
+              const uint8_t *hash, size_t hash_len, uint64_t *answer, size_t answer_len);
+void hns_length_card(uint8_t packet_type, uint64_t *answer, size_t answer_len);
+/* A payload read as a packet and written again by the writer of its type. */
+void hns_rewrite(uint8_t packet_type, const uint8_t *payload, size_t payload_len,
+                 uint8_t *out, size_t out_len, uint64_t *answer, size_t answer_len);
 
 #ifdef __cplusplus
 }

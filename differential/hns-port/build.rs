@@ -1,4 +1,4 @@
-//! Links libhns_ffi.a and libhns_ffi_frames.a: from the folder that HNS_FFI_LIB names, or from where
+//! Links libhns_ffi.a, libhns_ffi_frames.a and libhns_ffi_packets.a: from the folder that HNS_FFI_LIB names, or from where
 //! `rt staticlib` writes them.
 use std::env;
 use std::path::{Path, PathBuf};
@@ -10,7 +10,7 @@ fn main() {
     let folder = env::var_os("HNS_FFI_LIB").map_or(written, PathBuf::from);
     println!("cargo::rustc-link-search=native={}", folder.display());
     println!("cargo::rustc-env=HNS_FFI_LIBRARIES={}", folder.display());
-    for name in ["hns_ffi", "hns_ffi_frames"] {
+    for name in ["hns_ffi", "hns_ffi_frames", "hns_ffi_packets"] {
         let library = folder.join(format!("lib{name}.a"));
         println!("cargo::rerun-if-changed={}", library.display());
         if !library.exists() {

@@ -26,11 +26,15 @@ pub enum Kind {
     FrameExact,
     FrameEncode,
     Stream,
+    Packet,
+    Item,
+    Find,
+    Rewrite,
     Row,
 }
 
 impl Kind {
-    pub const ALL: [Self; 21] = [
+    pub const ALL: [Self; 25] = [
         Self::ReadU8,
         Self::ReadU16,
         Self::ReadU32,
@@ -51,13 +55,17 @@ impl Kind {
         Self::FrameExact,
         Self::FrameEncode,
         Self::Stream,
+        Self::Packet,
+        Self::Item,
+        Self::Find,
+        Self::Rewrite,
         Self::Row,
     ];
 
     /// Its part of the random comparisons.
     pub const fn share(self) -> u64 {
         match self {
-            Self::Stream => 8,
+            Self::Stream | Self::Rewrite | Self::Packet => 8,
             Self::FramePrefix | Self::FrameExact | Self::Reads | Self::Puts => 2,
             _ => 1,
         }
@@ -86,6 +94,10 @@ impl Kind {
             Self::FrameExact => "Frame::decode_exact",
             Self::FrameEncode => "Frame::encode (type, room)",
             Self::Stream => "FrameDecoder::push (chunks)",
+            Self::Packet => "Packet::decode (type, room for the text)",
+            Self::Item => "an item of a Packet (type, place)",
+            Self::Find => "a hash among inventory items (type, place)",
+            Self::Rewrite => "Packet::encode_payload (type, room)",
             Self::Row => "rows that do not fit (room)",
         }
     }

@@ -94,3 +94,37 @@ pub fn cuts(longest: usize, run: &mut impl FnMut(&Case)) {
         }
     }
 }
+
+/// All payloads of up to two bytes of every type (in the short run of the types with fields); all
+/// cuts of one payload of each type, and all of its changes in one byte.
+pub fn payloads(short: bool, run: &mut impl FnMut(&Case)) {
+    let mut rng = Rng::new(2);
+    for packet_type in 0..=255_u8 {
+        let mut ask = |bytes: Vec<u8>| {
+            let room = bytes.len() as u64;
+            for (kind, second) in [(Kind::Rewrite, room), (Kind::Packet, 255), (Kind::Item, 0)] {
+                let numbers = [u64::from(packet_type), second];
+                run(&Case::new(kind, bytes.clone(), &numbers));
+            }
+        };
+        ask(Vec::new());
+        for a in 0..=255 {
+            ask(vec![a]);
+            let last = if short { 3 } else { 255 };
+            for b in 0..=last {
+                ask(vec![a, b]);
+            }
+        }
+        let good = generate::payload(&mut rng, packet_type);
+        for cut in 0..=good.len().min(800) {
+            ask(good[..cut].to_vec());
+        }
+        for at in 0..good.len().min(if short { 40 } else { 400 }) {
+            for byte in 0..=255 {
+                let mut bytes = good.clone();
+                bytes[at] = byte;
+                ask(bytes);
+            }
+        }
+    }
+}

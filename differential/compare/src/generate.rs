@@ -37,6 +37,7 @@ pub fn case(rng: &mut Rng, kind: Kind) -> Case {
         Kind::FramePrefix | Kind::FrameExact | Kind::Row => front(rng, kind),
         Kind::FrameEncode => written(rng),
         Kind::Stream => stream(rng),
+        Kind::Packet | Kind::Item | Kind::Find | Kind::Rewrite => packet(rng, kind),
     };
     // The network of a case with frames is the one that they were made for, or another.
     let wrong = rng.one_in(40);
@@ -331,4 +332,141 @@ fn chunks(rng: &mut Rng, total: usize) -> Vec<u64> {
         left -= n;
     }
     numbers
+}
+
+fn packet(rng: &mut Rng, kind: Kind) -> Case {
+    let packet_type = match kind {
+        _ if rng.one_in(12) => rng.below(256) as u8,
+        Kind::Item => rng.pick(&[5, 6, 7, 8, 9, 10, 11, 24]) as u8,
+        Kind::Find => rng.pick(&[6, 7, 8]) as u8,
+        _ => rng.below(30) as u8,
+    };
+    let mut bytes = payload(rng, packet_type);
+    match rng.below(8) {
+        0 => damage(rng, &mut bytes),
+        1 => bytes.truncate(rng.index(bytes.len() + 1)),
+        2 => {
+            let n = 1 + rng.index(3);
+            let more = rng.bytes(n);
+            bytes.extend_from_slice(&more);
+        }
+        _ => {}
+    }
+    // Room for what is put out; or the place of an item, and whether the hash is another.
+    let second = match kind {
+        Kind::Rewrite if rng.one_in(8) => around(rng, bytes.len()),
+        Kind::Rewrite => bytes.len() + rng.index(9),
+        Kind::Packet if rng.one_in(4) => rng.index(256),
+        Kind::Packet => 255 + rng.index(3),
+        _ if rng.one_in(20) => edge(rng) as usize,
+        _ => rng.index(6),
+    };
+    let numbers = [u64::from(packet_type), second as u64, rng.below(2)];
+    Case::new(kind, bytes, &numbers)
+}
+
+/// A payload that most often reads as a packet of the type.
+pub fn payload(rng: &mut Rng, packet_type: u8) -> Vec<u8> {
+    match packet_type {
+        0 => version(rng),
+        1 | 4 | 12 | 16 | 19 => Vec::new(),
+        2 | 3 | 21 => rng.bytes(8),
+        5 => list(rng, 88, 0, 1_000),
+        6..=8 => list(rng, 36, 0, 50_000),
+        9 | 10 => list(rng, 32, 32, 50_000),
+        11 => list(rng, 236, 0, 2_000),
+        15 => reject(rng),
+        22 => rng.bytes(9),
+        24 => requested(rng),
+        26 => rng.bytes(64),
+        _ => {
+            let n = rng.index(80);
+            rng.bytes(n)
+        }
+    }
+}
+
+/// A length byte and as many bytes, some of them over 127.
+fn text(rng: &mut Rng) -> Vec<u8> {
+    let n = match rng.below(6) {
+        0 => 0,
+        1 => 255,
+        _ => rng.index(40),
+    };
+    let mut bytes = vec![n as u8];
+    bytes.extend_from_slice(&rng.bytes(n));
+    bytes
+}
+
+fn version(rng: &mut Rng) -> Vec<u8> {
+    let mut bytes = rng.bytes(116);
+    if rng.one_in(2) {
+        bytes[36] = 0;
+    }
+    let agent = text(rng);
+    bytes.extend_from_slice(&agent);
+    bytes.extend_from_slice(&rng.bytes(4));
+    bytes.push(rng.below(4) as u8);
+    bytes
+}
+
+fn reject(rng: &mut Rng) -> Vec<u8> {
+    let message = rng.pick(&[13, 14, 28, 29, 0, 12, 15, 27, 30, 255]) as u8;
+    let mut bytes = vec![message, rng.below(256) as u8];
+    let reason = text(rng);
+    bytes.extend_from_slice(&reason);
+    if matches!(message, 13 | 14 | 28 | 29) != rng.one_in(16) {
+        bytes.extend_from_slice(&rng.bytes(32));
+    }
+    bytes
+}
+
+/// A count, most often as many items, and so many bytes after them.
+fn list(rng: &mut Rng, width: usize, after: usize, limit: u64) -> Vec<u8> {
+    let count = match rng.below(40) {
+        0 => limit + rng.below(3) - 1,
+        1 => rng.pick(&[252, 253, 254]),
+        2 => edge(rng),
+        _ => rng.below(5),
+    };
+    let mut encoder = hns_encoding::Encoder::new();
+    encoder.put_compact_size(count);
+    let mut bytes = encoder.into_bytes();
+    if rng.one_in(30) {
+        bytes = compact(rng);
+    }
+    let items = if count <= limit && (count < 300 || rng.one_in(4)) {
+        count as usize * width + after
+    } else {
+        rng.index(200)
+    };
+    bytes.extend_from_slice(&rng.bytes(items));
+    bytes
+}
+
+/// A hash and differences, whose sums pass 65,535 here and there.
+fn requested(rng: &mut Rng) -> Vec<u8> {
+    let mut bytes = rng.bytes(32);
+    let count = match rng.below(40) {
+        0 => 16_661 + rng.below(3),
+        1 => edge(rng),
+        _ => rng.below(6),
+    };
+    let mut encoder = hns_encoding::Encoder::new();
+    encoder.put_compact_size(count);
+    for _ in 0..count.min(16_663) {
+        let difference = match rng.below(40) {
+            0 => edge(rng),
+            1 => 65_534 + rng.below(3),
+            2 => 250 + rng.below(8),
+            _ => rng.below(3),
+        };
+        encoder.put_compact_size(difference);
+    }
+    bytes.extend_from_slice(&encoder.into_bytes());
+    if rng.one_in(20) {
+        bytes.truncate(32);
+        bytes.extend_from_slice(&compact(rng));
+    }
+    bytes
 }

@@ -17,6 +17,75 @@ pub fn all(rng: &mut Rng, networks: usize, run: &mut impl FnMut(&Case)) {
         pushed(rng, network, run);
         over(rng, network, run);
     }
+    lists(rng, run);
+    payloads(rng, run);
+}
+
+/// Lists at their limit, one item below and one over; items at both ends and past them, and hashes.
+fn lists(rng: &mut Rng, run: &mut impl FnMut(&Case)) {
+    let types = [
+        (5, 88, 0, 1_000),
+        (6, 36, 0, 50_000),
+        (7, 36, 0, 50_000),
+        (8, 36, 0, 50_000),
+    ];
+    let more = [
+        (9, 32, 32, 50_000),
+        (10, 32, 32, 50_000),
+        (11, 236, 0, 2_000),
+    ];
+    for (packet_type, width, after, limit) in types.into_iter().chain(more) {
+        for count in [limit - 1, limit, limit + 1] {
+            let items = rng.bytes(count as usize * width + after);
+            asked(packet_type, [counted(count), items].concat(), count, run);
+        }
+    }
+    for count in [16_661, 16_662, 16_663] {
+        let differences = vec![rng.below(3) as u8; count as usize];
+        let hash = rng.bytes(32);
+        asked(24, [hash, counted(count), differences].concat(), count, run);
+    }
+}
+
+fn counted(count: u64) -> Vec<u8> {
+    let mut encoder = hns_encoding::Encoder::new();
+    encoder.put_compact_size(count);
+    encoder.into_bytes()
+}
+
+fn asked(packet_type: u64, bytes: Vec<u8>, count: u64, run: &mut impl FnMut(&Case)) {
+    let length = bytes.len() as u64;
+    for room in [length - 1, length, length + 3] {
+        run(&Case::new(
+            Kind::Rewrite,
+            bytes.clone(),
+            &[packet_type, room],
+        ));
+    }
+    run(&Case::new(Kind::Packet, bytes.clone(), &[packet_type, 255]));
+    for place in [0, count - 1, count, u64::MAX] {
+        run(&Case::new(Kind::Item, bytes.clone(), &[packet_type, place]));
+        for other in 0..2 {
+            run(&Case::new(
+                Kind::Find,
+                bytes.clone(),
+                &[packet_type, place, other],
+            ));
+        }
+    }
+}
+
+/// Payloads of 8,000,000 bytes and one more, raw and of types that take no such length.
+fn payloads(rng: &mut Rng, run: &mut impl FnMut(&Case)) {
+    for length in [PAYLOAD, PAYLOAD + 1] {
+        let bytes = rng.bytes(length);
+        for packet_type in [0, 1, 6, 17, 24, 29, 30, 255] {
+            let room = length as u64;
+            for (kind, second) in [(Kind::Rewrite, room), (Kind::Packet, 255), (Kind::Item, 0)] {
+                run(&Case::new(kind, bytes.clone(), &[packet_type, second]));
+            }
+        }
+    }
 }
 
 /// Frames whose length is at the limit or beside it, read and written.

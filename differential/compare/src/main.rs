@@ -12,6 +12,7 @@ mod frames;
 mod generate;
 mod headers;
 mod limits;
+mod packets;
 mod puts;
 mod reads;
 mod rng;
@@ -82,6 +83,7 @@ fn compare(options: &Options, run: &mut Run) {
     exhaustive::frame_headers(&mut |case| run.case(case));
     let longest = if options.short { 10 } else { 16 };
     exhaustive::cuts(longest, &mut |case| run.case(case));
+    exhaustive::payloads(options.short, &mut |case| run.case(case));
     run.part("limits");
     let networks = if options.short { 1 } else { 4 };
     limits::all(&mut rng, networks, &mut |case| run.case(case));
@@ -107,6 +109,10 @@ fn check(case: &Case) -> Verdict {
         Kind::FrameExact => frames::exact(case),
         Kind::FrameEncode => frames::encode(case),
         Kind::Stream => stream::check(case),
+        Kind::Packet => packets::read(case),
+        Kind::Item => packets::item(case),
+        Kind::Find => packets::find(case),
+        Kind::Rewrite => packets::rewrite(case),
         Kind::Row => frames::row(case),
         _ => reads::check(case),
     }
@@ -170,8 +176,8 @@ impl Run {
         println!("{total} comparisons, {kinds} kinds with a mismatch");
         let refused = |number: usize| rust::REFUSED[number].load(Ordering::Relaxed);
         let rows = self.same.get(&("random", Kind::Row)).unwrap_or(&0);
-        let alone = rows + (16..=18).map(refused).sum::<u64>();
-        println!("{alone} of them of the port alone: rows, and 16 to 18, which the Rust lacks");
+        let alone = rows + (16..=19).map(refused).sum::<u64>();
+        println!("{alone} of them of the port alone: rows, and 16 to 19, which the Rust lacks");
         print!("refusals by number:");
         for number in (0..20).filter(|number| refused(*number) > 0) {
             print!(" {number}: {}", refused(number));

@@ -1,4 +1,4 @@
-//! The functions of libhns_ffi.a and libhns_ffi_frames.a, as crates/hns_ffi/hns_ffi.h has them.
+//! The functions of libhns_ffi.a, libhns_ffi_frames.a and libhns_ffi_packets.a, as crates/hns_ffi/hns_ffi.h has them.
 
 unsafe extern "C" {
     pub fn hns_read_u8(
@@ -169,6 +169,50 @@ unsafe extern "C" {
         input_len: usize,
         output: *mut u8,
         output_len: usize,
+        answer: *mut u64,
+        answer_len: usize,
+    );
+    pub fn hns_read_packet(
+        packet_type: u8,
+        payload: *const u8,
+        payload_len: usize,
+        text: *mut u8,
+        text_len: usize,
+        answer: *mut u64,
+        answer_len: usize,
+    );
+    pub fn hns_item(
+        packet_type: u8,
+        payload: *const u8,
+        payload_len: usize,
+        place: usize,
+        answer: *mut u64,
+        answer_len: usize,
+    );
+    pub fn hns_indexes(
+        payload: *const u8,
+        payload_len: usize,
+        out: *mut u64,
+        out_len: usize,
+        answer: *mut u64,
+        answer_len: usize,
+    );
+    pub fn hns_find(
+        packet_type: u8,
+        payload: *const u8,
+        payload_len: usize,
+        hash: *const u8,
+        hash_len: usize,
+        answer: *mut u64,
+        answer_len: usize,
+    );
+    pub fn hns_length_card(packet_type: u8, answer: *mut u64, answer_len: usize);
+    pub fn hns_rewrite(
+        packet_type: u8,
+        payload: *const u8,
+        payload_len: usize,
+        out: *mut u8,
+        out_len: usize,
         answer: *mut u64,
         answer_len: usize,
     );

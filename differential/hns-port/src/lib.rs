@@ -11,6 +11,7 @@ mod encoding;
 pub mod ffi;
 mod frame;
 mod header;
+mod packet;
 
 pub use encoding::{Decoder, Encoder};
 pub use frame::{
@@ -18,6 +19,7 @@ pub use frame::{
     encode, push,
 };
 pub use header::{HASHES_SIZE, HEADER_SIZE, Header};
+pub use packet::{PacketRow, find, indexes, item, length_card, read_packet, rewrite};
 
 /// The folder of the libraries that were linked.
 pub const LIBRARIES: &str = env!("HNS_FFI_LIBRARIES");

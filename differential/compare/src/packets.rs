@@ -1,0 +1,333 @@
+//! Packets: read, item by item, searched, and written again.
+
+use hns_p2p_wire::{
+    Inventory, NetAddress, Packet, PacketType, RejectPacket, VersionPacket, WireError,
+};
+use hns_port::{PacketRow, Refusal};
+
+use crate::buffer::{filled, splice};
+use crate::case::{Case, Verdict};
+use crate::rust;
+
+/// Types that the port reads as raw bytes, and the Rust as what they carry.
+const CARRIED: [u8; 5] = [13, 14, 23, 25, 27];
+
+/// What a packet holds: numbers, and bytes that stand in the payload or were put out as text.
+type Seen = (Vec<u64>, Vec<Vec<u8>>);
+
+fn packet_type(case: &Case) -> u8 {
+    case.number(0) as u8
+}
+
+/// The field code of a count that is over its limit, by the Rust's name for it.
+fn field(context: &str) -> u64 {
+    match context {
+        "address" => 1,
+        "inventory" => 2,
+        "locator" => 3,
+        "header" => 4,
+        "compact-block requested indexes" => 5,
+        "compact-block requested index" => 6,
+        other => panic!("no field code for {other}"),
+    }
+}
+
+/// An error of a packet. The Rust has one text for every index that passes 65,535.
+fn packet_error(error: WireError) -> Refusal {
+    match error {
+        WireError::CountTooLarge {
+            context,
+            actual,
+            maximum,
+        } => Refusal {
+            c: field(context),
+            ..rust::refusal(7, actual as u64, maximum as u64)
+        },
+        WireError::CompactBlock(_) => rust::refusal(9, 0, 0),
+        other => rust::wire_error(other),
+    }
+}
+
+fn decode(case: &Case) -> Result<Packet, Refusal> {
+    Packet::decode(PacketType::from_u8(packet_type(case)), &case.bytes).map_err(packet_error)
+}
+
+/// The packet, and the output for its text with the bytes that are left alone.
+pub fn read(case: &Case) -> Verdict {
+    let kind = packet_type(case);
+    if CARRIED.contains(&kind) {
+        return Verdict::LeftOut;
+    }
+    let mut text = filled(case.number(1) as usize);
+    let mut expected = text.clone();
+    let port = hns_port::read_packet(kind, &case.bytes, &mut text)
+        .map(|row| port_seen(kind, &case.bytes, &row, &text));
+    let rust = decode(case).and_then(|packet| {
+        let put = words(&packet);
+        if expected.len() < put.len() {
+            return Err(rust::refusal(16, put.len() as u64, 0));
+        }
+        splice(&mut expected, 0, put.as_bytes());
+        Ok(rust_seen(&packet))
+    });
+    let answers = Verdict::of(&port, &rust);
+    if answers.differs() || text == expected {
+        return answers;
+    }
+    Verdict::of(&text, &expected)
+}
+
+fn words(packet: &Packet) -> &str {
+    match packet {
+        Packet::Version(version) => &version.agent,
+        Packet::Reject(reject) => &reject.reason,
+        _ => "",
+    }
+}
+
+fn port_seen(kind: u8, payload: &[u8], row: &PacketRow, text: &[u8]) -> Seen {
+    let place = |i: usize| row[i] as usize;
+    let bytes = |i: usize, n: usize| payload[place(i)..][..n].to_vec();
+    match kind {
+        0 => {
+            let numbers = [&row[1..9], &[row[10], row[13], row[14]]].concat();
+            (
+                numbers,
+                vec![
+                    bytes(9, 33),
+                    masked(&bytes(11, place(12))),
+                    text[..place(12)].to_vec(),
+                ],
+            )
+        }
+        2 | 3 | 21 => (vec![row[1]], vec![]),
+        5 => (vec![row[1], row[2]], vec![]),
+        6..=8 | 11 => (vec![row[1]], vec![payload[place(2)..].to_vec()]),
+        9 | 10 => (
+            vec![row[1]],
+            vec![payload[place(2)..place(3)].to_vec(), bytes(3, 32)],
+        ),
+        15 => {
+            let hash = if row[5] == 1 { bytes(6, 32) } else { vec![] };
+            let reason = masked(&bytes(3, place(4)));
+            (
+                vec![row[1], row[2], row[5]],
+                vec![reason, text[..place(4)].to_vec(), hash],
+            )
+        }
+        22 => (row[1..3].to_vec(), vec![]),
+        24 => (port_indexes(payload, place(1)), vec![bytes(3, 32)]),
+        26 => (vec![], vec![bytes(1, 32), bytes(2, 32)]),
+        1 | 4 | 12 | 16 | 19 => (vec![], vec![]),
+        _ => (vec![], vec![bytes(1, place(2))]),
+    }
+}
+
+fn masked(bytes: &[u8]) -> Vec<u8> {
+    bytes.iter().map(|byte| byte & 127).collect()
+}
+
+/// All indexes, stored by one call into room for them and one more.
+fn port_indexes(payload: &[u8], count: usize) -> Vec<u64> {
+    let mut out = vec![u64::MAX; count + 1];
+    let stored = hns_port::indexes(payload, &mut out);
+    assert_eq!((stored, out.pop()), (Ok(count), Some(u64::MAX)));
+    out
+}
+
+fn rust_seen(packet: &Packet) -> Seen {
+    match packet {
+        Packet::Version(version) => version_seen(version),
+        Packet::Ping(nonce) | Packet::Pong(nonce) => (vec![u64::from_le_bytes(*nonce)], vec![]),
+        Packet::Addr(items) => (
+            vec![items.len() as u64, compact_length(items.len())],
+            vec![],
+        ),
+        Packet::Inv(items) | Packet::GetData(items) | Packet::NotFound(items) => (
+            vec![items.len() as u64],
+            vec![items.iter().flat_map(inventory).collect()],
+        ),
+        Packet::GetBlocks(packet) | Packet::GetHeaders(packet) => {
+            let hashes = packet
+                .locator
+                .iter()
+                .flat_map(|hash| *hash.as_bytes())
+                .collect();
+            (
+                vec![packet.locator.len() as u64],
+                vec![hashes, packet.stop.as_bytes().to_vec()],
+            )
+        }
+        Packet::Headers(headers) => {
+            let bytes = headers.iter().flat_map(|header| header.encode()).collect();
+            (vec![headers.len() as u64], vec![bytes])
+        }
+        Packet::Reject(reject) => reject_seen(reject),
+        Packet::FeeFilter(rate) => (vec![*rate as u64], vec![]),
+        Packet::SendCmpct { mode, version } => (vec![u64::from(*mode), *version], vec![]),
+        Packet::GetBlockTxn(request) => {
+            let indexes = request.indexes.iter().map(|index| *index as u64).collect();
+            (indexes, vec![request.block_hash.as_bytes().to_vec()])
+        }
+        Packet::GetProof(proof) => (
+            vec![],
+            vec![
+                proof.root.as_bytes().to_vec(),
+                proof.key.as_bytes().to_vec(),
+            ],
+        ),
+        Packet::FilterLoad(bytes)
+        | Packet::FilterAdd(bytes)
+        | Packet::MerkleBlock(bytes)
+        | Packet::Claim(bytes)
+        | Packet::Airdrop(bytes)
+        | Packet::Unknown { payload: bytes, .. } => (vec![], vec![bytes.clone()]),
+        _ => (vec![], vec![]),
+    }
+}
+
+fn compact_length(count: usize) -> u64 {
+    let mut encoder = hns_encoding::Encoder::new();
+    encoder.put_compact_size(count as u64);
+    encoder.into_bytes().len() as u64
+}
+
+fn address_numbers(address: &NetAddress) -> Vec<u64> {
+    let half = |at: usize| u64::from_le_bytes(address.ip[at..at + 8].try_into().expect("8 bytes"));
+    vec![
+        address.time,
+        address.services,
+        half(0),
+        half(8),
+        u64::from(address.port),
+    ]
+}
+
+fn version_seen(version: &VersionPacket) -> Seen {
+    let mut numbers = vec![u64::from(version.version), version.services, version.time];
+    numbers.extend(address_numbers(&version.remote));
+    numbers.extend([
+        u64::from_le_bytes(version.nonce),
+        u64::from(version.height),
+        u64::from(version.no_relay),
+    ]);
+    let agent = version.agent.as_bytes().to_vec();
+    (
+        numbers,
+        vec![version.remote.key.to_vec(), agent.clone(), agent],
+    )
+}
+
+fn reject_seen(reject: &RejectPacket) -> Seen {
+    let present = u64::from(reject.hash.is_some());
+    let reason = reject.reason.as_bytes().to_vec();
+    let hash = reject.hash.map_or(vec![], |hash| hash.to_vec());
+    let numbers = vec![
+        u64::from(reject.message.as_u8()),
+        u64::from(reject.code),
+        present,
+    ];
+    (numbers, vec![reason.clone(), reason, hash])
+}
+
+fn inventory(item: &Inventory) -> Vec<u8> {
+    [&item.kind.as_u32().to_le_bytes()[..], &item.hash].concat()
+}
+
+/// The item at a place: its numbers, and the bytes that stand at its places.
+pub fn item(case: &Case) -> Verdict {
+    let (kind, place) = (packet_type(case), case.number(1) as usize);
+    if CARRIED.contains(&kind) {
+        return Verdict::LeftOut;
+    }
+    let port =
+        hns_port::item(kind, &case.bytes, place).map(|row| port_item(kind, &case.bytes, &row));
+    let rust = decode(case)
+        .and_then(|packet| rust_item(&packet, place).ok_or_else(|| rust::refusal(19, 0, 0)));
+    Verdict::of(&port, &rust)
+}
+
+fn port_item(kind: u8, payload: &[u8], row: &PacketRow) -> Seen {
+    let bytes = |i: usize, n: usize| payload[row[i] as usize..][..n].to_vec();
+    match kind {
+        5 => (row[1..6].to_vec(), vec![bytes(6, 33)]),
+        6..=8 => (vec![row[1]], vec![bytes(2, 32)]),
+        9 | 10 => (vec![], vec![bytes(1, 32)]),
+        11 => (vec![], vec![bytes(1, 236)]),
+        _ => (vec![row[1]], vec![]),
+    }
+}
+
+fn rust_item(packet: &Packet, place: usize) -> Option<Seen> {
+    Some(match packet {
+        Packet::Addr(items) => {
+            let address = items.get(place)?;
+            (address_numbers(address), vec![address.key.to_vec()])
+        }
+        Packet::Inv(items) | Packet::GetData(items) | Packet::NotFound(items) => {
+            let item = items.get(place)?;
+            (
+                vec![u64::from(item.kind.as_u32())],
+                vec![item.hash.to_vec()],
+            )
+        }
+        Packet::GetBlocks(packet) | Packet::GetHeaders(packet) => {
+            (vec![], vec![packet.locator.get(place)?.as_bytes().to_vec()])
+        }
+        Packet::Headers(headers) => (vec![], vec![headers.get(place)?.encode().to_vec()]),
+        Packet::GetBlockTxn(request) => (vec![*request.indexes.get(place)? as u64], vec![]),
+        _ => return None,
+    })
+}
+
+/// A hash that an item at a place has, or one beside it: whether it is found, and that it stands there.
+pub fn find(case: &Case) -> Verdict {
+    let kind = packet_type(case);
+    if CARRIED.contains(&kind) {
+        return Verdict::LeftOut;
+    }
+    let packet = decode(case);
+    let items: &[Inventory] = match &packet {
+        Ok(Packet::Inv(items) | Packet::GetData(items) | Packet::NotFound(items)) => items,
+        _ => &[],
+    };
+    let mut hash = items
+        .get(case.number(1) as usize)
+        .map_or([7; 32], |item| item.hash);
+    hash[31] ^= (case.number(2) % 2) as u8;
+    let port = hns_port::find(kind, &case.bytes, &hash);
+    let rust = packet.as_ref().map_err(|refusal| *refusal);
+    let rust = rust.map(|_| items.iter().any(|item| item.hash == hash));
+    let stands = |place: usize| items.get(place).is_some_and(|item| item.hash == hash);
+    let port = port.map(|place| place.is_some_and(stands));
+    Verdict::of(&port, &rust)
+}
+
+/// Read, and written again by the type's writer.
+pub fn rewrite(case: &Case) -> Verdict {
+    let (kind, room) = (packet_type(case), case.number(1) as usize);
+    if CARRIED.contains(&kind) {
+        return Verdict::LeftOut;
+    }
+    let mut out = filled(room);
+    let mut expected = out.clone();
+    let port = hns_port::rewrite(kind, &case.bytes, &mut out);
+    let rust = again(kind, &case.bytes)
+        .map_err(packet_error)
+        .and_then(|bytes| {
+            if room < bytes.len() {
+                return Err(rust::refusal(16, bytes.len() as u64, 0));
+            }
+            splice(&mut expected, 0, &bytes);
+            Ok(bytes.len())
+        });
+    let answers = Verdict::of(&port, &rust);
+    if answers.differs() || out == expected {
+        return answers;
+    }
+    Verdict::of(&out, &expected)
+}
+
+fn again(kind: u8, payload: &[u8]) -> Result<Vec<u8>, WireError> {
+    Packet::decode(PacketType::from_u8(kind), payload)?.encode_payload()
+}

@@ -1,0 +1,76 @@
+use crate::{Refusal, ffi, row};
+
+/// What a call about packets answers: sixteen numbers, as hns_ffi.h has them.
+pub type PacketRow = [u64; 16];
+
+#[inline]
+fn long_row(call: impl FnOnce(*mut u64, usize)) -> Result<PacketRow, Refusal> {
+    let mut row = [0; 16];
+    call(row.as_mut_ptr(), row.len());
+    match row {
+        [0, ..] => Ok(row),
+        [number, a, b, c, ..] => Err(Refusal { number, a, b, c }),
+    }
+}
+
+/// Reads a payload as a packet of a type. An agent or a reason goes to the front of `text`.
+#[inline]
+pub fn read_packet(packet_type: u8, payload: &[u8], text: &mut [u8]) -> Result<PacketRow, Refusal> {
+    let (bytes, len) = (payload.as_ptr(), payload.len());
+    let (to, room) = (text.as_mut_ptr(), text.len());
+    // SAFETY: the pointers and counts are those of slices, and they do not overlap.
+    long_row(|answer, n| unsafe {
+        ffi::hns_read_packet(packet_type, bytes, len, to, room, answer, n);
+    })
+}
+
+/// The item at a place of a payload's list.
+#[inline]
+pub fn item(packet_type: u8, payload: &[u8], place: usize) -> Result<PacketRow, Refusal> {
+    let (bytes, len) = (payload.as_ptr(), payload.len());
+    // SAFETY: as above.
+    long_row(|answer, n| unsafe { ffi::hns_item(packet_type, bytes, len, place, answer, n) })
+}
+
+/// All indexes of a getblocktxn payload to the front of `out`; answers how many.
+#[inline]
+pub fn indexes(payload: &[u8], out: &mut [u64]) -> Result<usize, Refusal> {
+    let (bytes, len) = (payload.as_ptr(), payload.len());
+    let (to, room) = (out.as_mut_ptr(), out.len());
+    // SAFETY: as above.
+    let row = long_row(|answer, n| unsafe { ffi::hns_indexes(bytes, len, to, room, answer, n) })?;
+    Ok(row[1] as usize)
+}
+
+/// A place of an inventory item with the hash, or none.
+#[inline]
+pub fn find(packet_type: u8, payload: &[u8], hash: &[u8; 32]) -> Result<Option<usize>, Refusal> {
+    let (bytes, len) = (payload.as_ptr(), payload.len());
+    // SAFETY: as above.
+    let row = long_row(|answer, n| unsafe {
+        ffi::hns_find(packet_type, bytes, len, hash.as_ptr(), 32, answer, n);
+    })?;
+    Ok((row[1] == 1).then_some(row[2] as usize))
+}
+
+/// The least and the greatest length of a payload that reads as a type.
+#[inline]
+pub fn length_card(packet_type: u8) -> (u64, u64) {
+    let mut row = [0; 16];
+    // SAFETY: as above.
+    unsafe { ffi::hns_length_card(packet_type, row.as_mut_ptr(), row.len()) };
+    (row[1], row[2])
+}
+
+/// Reads a payload as a packet of a type and writes it again, by the writer of that type, to the
+/// output's front; answers the length.
+#[inline]
+pub fn rewrite(packet_type: u8, payload: &[u8], out: &mut [u8]) -> Result<usize, Refusal> {
+    let (bytes, len) = (payload.as_ptr(), payload.len());
+    let (to, room) = (out.as_mut_ptr(), out.len());
+    // SAFETY: as above.
+    let call = |answer, n| unsafe {
+        ffi::hns_rewrite(packet_type, bytes, len, to, room, answer, n);
+    };
+    row(call, |row| row.at(1) as usize)
+}
