@@ -1,7 +1,8 @@
 /* The proved Handshake codec for C: numbers and bytes in, rows of six numbers out.
  *
  * Link with libhns_ffi.a, for frames and the stream with libhns_ffi_frames.a as well, and for packets
- * with libhns_ffi_packets.a: `rt staticlib hns_ffi` writes the first, and so on.
+ * with libhns_ffi_packets.a (reading) and libhns_ffi_writers.a: `rt staticlib hns_ffi` writes the first,
+ * and so on.
  *
  * What the caller must see to, since no proof reaches beyond the call:
  *
@@ -27,7 +28,7 @@
  *   frame written    0, length of its encoding
  *   push             0, frames, length of their encodings, held count
  *                    refusal, a, b, c, held count
- *   rewrite          0, length of the payload
+ *   rewrite, writers 0, length of the payload
  *
  * Packets, items, indexes, the finder and the length card have rows of sixteen. A place counts from the
  * payload's first byte:
@@ -54,15 +55,18 @@
  * Refusals: 1 bytes end in a field (a place, b missing); 2 compact size not shortest (a bits);
  * 3 bytes left (a how many); 4 magic (a expected, b found); 5 payload too large (a, b limit);
  * 6 held and input too large (a, b limit); 7 over a limit (a, b limit); 8 incomplete frame
- * (a missing); 9 index over 65,535; 15 header length (a); 16 output too short (a needed); 17 store
+ * (a missing); 9 index over 65,535; 10 text over 127; 11 hash against the type; 12 too many indexes
+ * (a, b limit); 13 index to write over 65,535 (a place); 14 index not above the one before it
+ * (a place); 15 header length (a); 16 output too short (a needed); 17 store
  * too short (a needed); 18 held count over the store (a held); 19 no item at the place. Of 7, c is
- * 1 address, 2 inventory, 3 locator, 4 header, 5 index count, 6 index.
+ * 1 address, 2 inventory, 3 locator, 4 header, 5 index count, 6 index, 7 agent, 8 reason.
  *
  * Networks: 0 mainnet, 1 testnet, 2 regtest, 3 simnet. A greater number is taken as simnet, not refused.
  */
 #ifndef HNS_FFI_H
 #define HNS_FFI_H
 
+#include <stdbool.h>
 #include <stddef.h>
 #include <stdint.h>
 
@@ -153,6 +157,42 @@ void hns_length_card(uint8_t packet_type, uint64_t *answer, size_t answer_len);
 /* A payload read as a packet and written again by the writer of its type. */
 void hns_rewrite(uint8_t packet_type, const uint8_t *payload, size_t payload_len,
                  uint8_t *out, size_t out_len, uint64_t *answer, size_t answer_len);
+
+/* Writers: a payload to the front of `out`. Addresses are items of 67 bytes (time 8, services 8, ip 16,
+ * port 2, key 33), inventory items of 36, hashes of 32, headers of 236; bytes after the last whole item
+ * are not written. A hash of 32 bytes or a key of 33 is the front of a slice. An ip is two numbers, as
+ * in the row of a version. */
+void hns_write_empty(uint8_t *out, size_t out_len, uint64_t *answer, size_t answer_len);
+void hns_write_nonce(uint64_t nonce, uint8_t *out, size_t out_len,
+                     uint64_t *answer, size_t answer_len);
+void hns_write_addr(const uint8_t *items, size_t items_len, uint8_t *out, size_t out_len,
+                    uint64_t *answer, size_t answer_len);
+void hns_write_inventory(const uint8_t *items, size_t items_len, uint8_t *out, size_t out_len,
+                         uint64_t *answer, size_t answer_len);
+void hns_write_locator(const uint8_t *hashes, size_t hashes_len,
+                       const uint8_t *stop, size_t stop_len, uint8_t *out, size_t out_len,
+                       uint64_t *answer, size_t answer_len);
+void hns_write_headers(const uint8_t *items, size_t items_len, uint8_t *out, size_t out_len,
+                       uint64_t *answer, size_t answer_len);
+void hns_write_reject(uint8_t message, uint8_t code, const uint8_t *reason, size_t reason_len,
+                      bool present, const uint8_t *hash, size_t hash_len,
+                      uint8_t *out, size_t out_len, uint64_t *answer, size_t answer_len);
+void hns_write_feefilter(int64_t rate, uint8_t *out, size_t out_len,
+                         uint64_t *answer, size_t answer_len);
+void hns_write_sendcmpct(uint8_t mode, uint64_t version, uint8_t *out, size_t out_len,
+                         uint64_t *answer, size_t answer_len);
+void hns_write_getblocktxn(const uint8_t *hash, size_t hash_len,
+                           const uint64_t *indexes, size_t indexes_len,
+                           uint8_t *out, size_t out_len, uint64_t *answer, size_t answer_len);
+void hns_write_getproof(const uint8_t *root, size_t root_len, const uint8_t *key, size_t key_len,
+                        uint8_t *out, size_t out_len, uint64_t *answer, size_t answer_len);
+void hns_write_raw(const uint8_t *payload, size_t payload_len, uint8_t *out, size_t out_len,
+                   uint64_t *answer, size_t answer_len);
+void hns_write_version(uint32_t version, uint64_t services, uint64_t time, uint64_t remote_time,
+                       uint64_t remote_services, uint64_t ip_first, uint64_t ip_last, uint16_t port,
+                       const uint8_t *key, size_t key_len, uint64_t nonce,
+                       const uint8_t *agent, size_t agent_len, uint32_t height, bool no_relay,
+                       uint8_t *out, size_t out_len, uint64_t *answer, size_t answer_len);
 
 #ifdef __cplusplus
 }

@@ -10,7 +10,12 @@ fn main() {
     let folder = env::var_os("HNS_FFI_LIB").map_or(written, PathBuf::from);
     println!("cargo::rustc-link-search=native={}", folder.display());
     println!("cargo::rustc-env=HNS_FFI_LIBRARIES={}", folder.display());
-    for name in ["hns_ffi", "hns_ffi_frames", "hns_ffi_packets"] {
+    for name in [
+        "hns_ffi",
+        "hns_ffi_frames",
+        "hns_ffi_packets",
+        "hns_ffi_writers",
+    ] {
         let library = folder.join(format!("lib{name}.a"));
         println!("cargo::rerun-if-changed={}", library.display());
         if !library.exists() {

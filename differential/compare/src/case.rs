@@ -30,11 +30,12 @@ pub enum Kind {
     Item,
     Find,
     Rewrite,
+    Write,
     Row,
 }
 
 impl Kind {
-    pub const ALL: [Self; 25] = [
+    pub const ALL: [Self; 26] = [
         Self::ReadU8,
         Self::ReadU16,
         Self::ReadU32,
@@ -59,13 +60,14 @@ impl Kind {
         Self::Item,
         Self::Find,
         Self::Rewrite,
+        Self::Write,
         Self::Row,
     ];
 
     /// Its part of the random comparisons.
     pub const fn share(self) -> u64 {
         match self {
-            Self::Stream | Self::Rewrite | Self::Packet => 8,
+            Self::Stream | Self::Rewrite | Self::Packet | Self::Write => 8,
             Self::FramePrefix | Self::FrameExact | Self::Reads | Self::Puts => 2,
             _ => 1,
         }
@@ -98,6 +100,7 @@ impl Kind {
             Self::Item => "an item of a Packet (type, place)",
             Self::Find => "a hash among inventory items (type, place)",
             Self::Rewrite => "Packet::encode_payload (type, room)",
+            Self::Write => "writers by themselves (type, seed, room)",
             Self::Row => "rows that do not fit (room)",
         }
     }

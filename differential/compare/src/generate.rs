@@ -37,6 +37,14 @@ pub fn case(rng: &mut Rng, kind: Kind) -> Case {
         Kind::FramePrefix | Kind::FrameExact | Kind::Row => front(rng, kind),
         Kind::FrameEncode => written(rng),
         Kind::Stream => stream(rng),
+        Kind::Write => {
+            let types = [0, 1, 2, 3, 5, 6, 9, 11, 15, 17, 21, 22, 24, 26];
+            Case::new(
+                kind,
+                Vec::new(),
+                &[rng.pick(&types), rng.next(), rng.below(5)],
+            )
+        }
         Kind::Packet | Kind::Item | Kind::Find | Kind::Rewrite => packet(rng, kind),
     };
     // The network of a case with frames is the one that they were made for, or another.

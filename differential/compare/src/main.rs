@@ -19,6 +19,7 @@ mod rng;
 mod rust;
 mod shrink;
 mod stream;
+mod writes;
 
 use std::collections::BTreeMap;
 use std::process::ExitCode;
@@ -113,6 +114,7 @@ fn check(case: &Case) -> Verdict {
         Kind::Item => packets::item(case),
         Kind::Find => packets::find(case),
         Kind::Rewrite => packets::rewrite(case),
+        Kind::Write => writes::check(case),
         Kind::Row => frames::row(case),
         _ => reads::check(case),
     }

@@ -216,4 +216,123 @@ unsafe extern "C" {
         answer: *mut u64,
         answer_len: usize,
     );
+    pub fn hns_write_empty(out: *mut u8, out_len: usize, answer: *mut u64, answer_len: usize);
+    pub fn hns_write_nonce(
+        nonce: u64,
+        out: *mut u8,
+        out_len: usize,
+        answer: *mut u64,
+        answer_len: usize,
+    );
+    pub fn hns_write_addr(
+        items: *const u8,
+        items_len: usize,
+        out: *mut u8,
+        out_len: usize,
+        answer: *mut u64,
+        answer_len: usize,
+    );
+    pub fn hns_write_inventory(
+        items: *const u8,
+        items_len: usize,
+        out: *mut u8,
+        out_len: usize,
+        answer: *mut u64,
+        answer_len: usize,
+    );
+    pub fn hns_write_locator(
+        hashes: *const u8,
+        hashes_len: usize,
+        stop: *const u8,
+        stop_len: usize,
+        out: *mut u8,
+        out_len: usize,
+        answer: *mut u64,
+        answer_len: usize,
+    );
+    pub fn hns_write_headers(
+        items: *const u8,
+        items_len: usize,
+        out: *mut u8,
+        out_len: usize,
+        answer: *mut u64,
+        answer_len: usize,
+    );
+    pub fn hns_write_reject(
+        message: u8,
+        code: u8,
+        reason: *const u8,
+        reason_len: usize,
+        present: bool,
+        hash: *const u8,
+        hash_len: usize,
+        out: *mut u8,
+        out_len: usize,
+        answer: *mut u64,
+        answer_len: usize,
+    );
+    pub fn hns_write_feefilter(
+        rate: i64,
+        out: *mut u8,
+        out_len: usize,
+        answer: *mut u64,
+        answer_len: usize,
+    );
+    pub fn hns_write_sendcmpct(
+        mode: u8,
+        version: u64,
+        out: *mut u8,
+        out_len: usize,
+        answer: *mut u64,
+        answer_len: usize,
+    );
+    pub fn hns_write_getblocktxn(
+        hash: *const u8,
+        hash_len: usize,
+        indexes: *const u64,
+        indexes_len: usize,
+        out: *mut u8,
+        out_len: usize,
+        answer: *mut u64,
+        answer_len: usize,
+    );
+    pub fn hns_write_getproof(
+        root: *const u8,
+        root_len: usize,
+        key: *const u8,
+        key_len: usize,
+        out: *mut u8,
+        out_len: usize,
+        answer: *mut u64,
+        answer_len: usize,
+    );
+    pub fn hns_write_raw(
+        payload: *const u8,
+        payload_len: usize,
+        out: *mut u8,
+        out_len: usize,
+        answer: *mut u64,
+        answer_len: usize,
+    );
+    pub fn hns_write_version(
+        version: u32,
+        services: u64,
+        time: u64,
+        remote_time: u64,
+        remote_services: u64,
+        ip_first: u64,
+        ip_last: u64,
+        port: u16,
+        key: *const u8,
+        key_len: usize,
+        nonce: u64,
+        agent: *const u8,
+        agent_len: usize,
+        height: u32,
+        no_relay: bool,
+        out: *mut u8,
+        out_len: usize,
+        answer: *mut u64,
+        answer_len: usize,
+    );
 }

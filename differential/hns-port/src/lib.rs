@@ -12,6 +12,7 @@ pub mod ffi;
 mod frame;
 mod header;
 mod packet;
+mod writers;
 
 pub use encoding::{Decoder, Encoder};
 pub use frame::{
@@ -20,6 +21,11 @@ pub use frame::{
 };
 pub use header::{HASHES_SIZE, HEADER_SIZE, Header};
 pub use packet::{PacketRow, find, indexes, item, length_card, read_packet, rewrite};
+pub use writers::{
+    AddressFields, VersionFields, write_addr, write_empty, write_feefilter, write_getblocktxn,
+    write_getproof, write_headers, write_inventory, write_locator, write_nonce, write_raw,
+    write_reject, write_sendcmpct, write_version,
+};
 
 /// The folder of the libraries that were linked.
 pub const LIBRARIES: &str = env!("HNS_FFI_LIBRARIES");
