@@ -5,29 +5,14 @@
 //! Random comparisons follow the exhaustive ones and the large limits: ten million, with `--short`
 //! a hundred thousand. A mismatch prints both answers and the smallest input found, and fails.
 
-mod buffer;
-mod case;
-mod exhaustive;
-mod frames;
-mod generate;
-mod headers;
-mod limits;
-mod packets;
-mod puts;
-mod reads;
-mod rng;
-mod rust;
-mod shrink;
-mod stream;
-mod writes;
-
 use std::collections::BTreeMap;
 use std::process::ExitCode;
 use std::sync::atomic::Ordering;
 use std::time::{Instant, SystemTime, UNIX_EPOCH};
 
-use case::{Case, Kind, Verdict};
-use rng::Rng;
+use compare::case::{Case, Kind, Verdict};
+use compare::rng::Rng;
+use compare::{check, exhaustive, generate, limits, rust, shrink};
 
 struct Options {
     short: bool,
@@ -44,7 +29,7 @@ fn main() -> ExitCode {
     println!("seed {}", options.seed);
     let mut run = Run::default();
     let begun = Instant::now();
-    compare(&options, &mut run);
+    run_all(&options, &mut run);
     run.summary();
     println!("{:.1} s", begun.elapsed().as_secs_f64());
     if run.mismatches.is_empty() {
@@ -76,7 +61,7 @@ fn options() -> Option<Options> {
     })
 }
 
-fn compare(options: &Options, run: &mut Run) {
+fn run_all(options: &Options, run: &mut Run) {
     let mut rng = Rng::new(options.seed);
     run.part("exhaustive");
     let first = if options.short { 0xfd } else { 0 };
@@ -95,28 +80,6 @@ fn compare(options: &Options, run: &mut Run) {
         while run.compared(kind) < wanted && !run.mismatches.contains_key(&kind) {
             run.case(&generate::case(&mut rng, kind));
         }
-    }
-}
-
-fn check(case: &Case) -> Verdict {
-    match case.kind {
-        Kind::CompactSizes => reads::check_sizes(case),
-        Kind::Reads => reads::check_sequence(case),
-        Kind::Puts => puts::check(case),
-        Kind::HeaderDecode => headers::decode(case),
-        Kind::HeaderRead => headers::read(case),
-        Kind::HeaderPut => headers::put(case),
-        Kind::FramePrefix => frames::prefix(case),
-        Kind::FrameExact => frames::exact(case),
-        Kind::FrameEncode => frames::encode(case),
-        Kind::Stream => stream::check(case),
-        Kind::Packet => packets::read(case),
-        Kind::Item => packets::item(case),
-        Kind::Find => packets::find(case),
-        Kind::Rewrite => packets::rewrite(case),
-        Kind::Write => writes::check(case),
-        Kind::Row => frames::row(case),
-        _ => reads::check(case),
     }
 }
 

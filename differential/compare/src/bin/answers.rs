@@ -4,12 +4,10 @@
 //!
 //! A case is its kind, a network, three numbers of eight bytes, and its bytes.
 
-#[path = "../rust.rs"]
-mod rust;
-
 use std::fmt::Write;
 use std::process::ExitCode;
 
+use compare::rust;
 use hns_encoding::{DecodeError, Decoder, Encoder};
 use hns_header_consensus::Header;
 use hns_p2p_wire::{Frame, FrameDecoder, PacketType, decode_frame_prefix};
