@@ -5,7 +5,7 @@ use std::hint::black_box;
 
 use hns_header_consensus::Header as Published;
 use hns_p2p_wire as rust;
-use hns_port as port;
+use hns_port::lent as port;
 
 use crate::Row;
 use crate::inputs::Inputs;

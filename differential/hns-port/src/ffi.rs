@@ -1,4 +1,7 @@
-//! The functions of libhns_ffi.a, libhns_ffi_frames.a and libhns_ffi_packets.a, as crates/hns_ffi/hns_ffi.h has them.
+//! The functions of libhns_ffi.a, libhns_ffi_frames.a, libhns_ffi_packets.a and libhns_ffi_writers.a, as
+//! crates/hns_ffi/hns_ffi.h declares them and says what each does.
+
+#![allow(missing_docs)]
 
 unsafe extern "C" {
     pub fn hns_read_u8(
