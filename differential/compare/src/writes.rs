@@ -139,15 +139,22 @@ fn indexes(rng: &mut Rng) -> Vec<usize> {
         .collect()
 }
 
-fn packet(rng: &mut Rng, packet_type: u8) -> Packet {
+pub fn packet(rng: &mut Rng, packet_type: u8) -> Packet {
     match packet_type {
         0 => Packet::Version(version(rng)),
         1 => Packet::Verack,
+        4 => Packet::GetAddr,
+        12 => Packet::SendHeaders,
+        16 => Packet::Mempool,
+        19 => Packet::FilterClear,
         2 => Packet::Ping(array(rng)),
         3 => Packet::Pong(array(rng)),
         5 => Packet::Addr(many(rng, 1_000, address)),
         6 => Packet::Inv(many(rng, 50_000, inventory)),
+        7 => Packet::GetData(many(rng, 50_000, inventory)),
+        8 => Packet::NotFound(many(rng, 50_000, inventory)),
         9 => Packet::GetBlocks(locator(rng)),
+        10 => Packet::GetHeaders(locator(rng)),
         11 => Packet::Headers(many(rng, 2_000, |rng| {
             Header::decode(&array::<236>(rng)).expect("every 236 bytes are a header")
         })),
@@ -165,11 +172,26 @@ fn packet(rng: &mut Rng, packet_type: u8) -> Packet {
             root: TreeRoot::new(array(rng)),
             key: NameHash::new(array(rng)),
         }),
-        _ => {
-            let n = rng.index(80);
-            Packet::FilterLoad(rng.bytes(n))
-        }
+        17 => Packet::FilterLoad(raw(rng)),
+        18 => Packet::FilterAdd(raw(rng)),
+        20 => Packet::MerkleBlock(raw(rng)),
+        28 => Packet::Claim(raw(rng)),
+        29 => Packet::Airdrop(raw(rng)),
+        _ => Packet::Unknown {
+            packet_type,
+            payload: raw(rng),
+        },
     }
+}
+
+/// Raw bytes, rarely as many as a payload may have or one more.
+fn raw(rng: &mut Rng) -> Vec<u8> {
+    let n = if rng.one_in(2_000) {
+        8_000_000 + rng.index(2)
+    } else {
+        rng.index(80)
+    };
+    rng.bytes(n)
 }
 
 // ---- the port's calls
@@ -183,14 +205,14 @@ fn write(packet: &Packet, out: &mut [u8]) -> Result<usize, Refusal> {
         Packet::Addr(items) => {
             hns_port::write_addr(&items.iter().flat_map(flat).collect::<Vec<_>>(), out)
         }
-        Packet::Inv(items) => {
+        Packet::Inv(items) | Packet::GetData(items) | Packet::NotFound(items) => {
             let flat: Vec<u8> = items
                 .iter()
                 .flat_map(|item| [&item.kind.as_u32().to_le_bytes()[..], &item.hash].concat())
                 .collect();
             hns_port::write_inventory(&flat, out)
         }
-        Packet::GetBlocks(packet) => {
+        Packet::GetBlocks(packet) | Packet::GetHeaders(packet) => {
             let flat: Vec<u8> = packet
                 .locator
                 .iter()
@@ -219,7 +241,12 @@ fn write(packet: &Packet, out: &mut [u8]) -> Result<usize, Refusal> {
         Packet::GetProof(proof) => {
             hns_port::write_getproof(proof.root.as_bytes(), proof.key.as_bytes(), out)
         }
-        Packet::FilterLoad(payload) => hns_port::write_raw(payload, out),
+        Packet::FilterLoad(payload)
+        | Packet::FilterAdd(payload)
+        | Packet::MerkleBlock(payload)
+        | Packet::Claim(payload)
+        | Packet::Airdrop(payload)
+        | Packet::Unknown { payload, .. } => hns_port::write_raw(payload, out),
         _ => hns_port::write_empty(out),
     }
 }
@@ -269,7 +296,7 @@ fn field(context: &str) -> u64 {
 }
 
 /// The Rust says which index list is refused by a text, and not where: the place is looked for here.
-fn refused(packet: &Packet, error: &WireError) -> Refusal {
+pub fn refused(packet: &Packet, error: &WireError) -> Refusal {
     match error {
         WireError::CountTooLarge {
             context,
@@ -288,6 +315,9 @@ fn refused(packet: &Packet, error: &WireError) -> Refusal {
             ..rust::refusal(10, 0, 0)
         },
         WireError::CompactBlock(CompactBlockError::Malformed(text)) => list_refused(packet, text),
+        WireError::PayloadTooLarge { actual, maximum } => {
+            rust::refusal(5, *actual as u64, *maximum as u64)
+        }
         other => panic!("no refusal for {other:?}"),
     }
 }
