@@ -11,6 +11,7 @@ use hns_primitives::{BlockHash, NameHash, TreeRoot};
 
 use crate::buffer::{filled, splice};
 use crate::case::{Case, Verdict};
+use crate::packets;
 use crate::rng::Rng;
 use crate::rust;
 
@@ -142,11 +143,6 @@ fn indexes(rng: &mut Rng) -> Vec<usize> {
 pub fn packet(rng: &mut Rng, packet_type: u8) -> Packet {
     match packet_type {
         0 => Packet::Version(version(rng)),
-        1 => Packet::Verack,
-        4 => Packet::GetAddr,
-        12 => Packet::SendHeaders,
-        16 => Packet::Mempool,
-        19 => Packet::FilterClear,
         2 => Packet::Ping(array(rng)),
         3 => Packet::Pong(array(rng)),
         5 => Packet::Addr(many(rng, 1_000, address)),
@@ -172,6 +168,18 @@ pub fn packet(rng: &mut Rng, packet_type: u8) -> Packet {
             root: TreeRoot::new(array(rng)),
             key: NameHash::new(array(rng)),
         }),
+        _ => plain(rng, packet_type),
+    }
+}
+
+/// Packets without fields: empty, or raw bytes.
+fn plain(rng: &mut Rng, packet_type: u8) -> Packet {
+    match packet_type {
+        1 => Packet::Verack,
+        4 => Packet::GetAddr,
+        12 => Packet::SendHeaders,
+        16 => Packet::Mempool,
+        19 => Packet::FilterClear,
         17 => Packet::FilterLoad(raw(rng)),
         18 => Packet::FilterAdd(raw(rng)),
         20 => Packet::MerkleBlock(raw(rng)),
@@ -202,36 +210,16 @@ fn write(packet: &Packet, out: &mut [u8]) -> Result<usize, Refusal> {
         Packet::Ping(nonce) | Packet::Pong(nonce) => {
             hns_port::write_nonce(u64::from_le_bytes(*nonce), out)
         }
-        Packet::Addr(items) => {
-            hns_port::write_addr(&items.iter().flat_map(flat).collect::<Vec<_>>(), out)
-        }
+        Packet::Addr(items) => hns_port::write_addr(&joined(items, flat), out),
         Packet::Inv(items) | Packet::GetData(items) | Packet::NotFound(items) => {
-            let flat: Vec<u8> = items
-                .iter()
-                .flat_map(|item| [&item.kind.as_u32().to_le_bytes()[..], &item.hash].concat())
-                .collect();
-            hns_port::write_inventory(&flat, out)
+            hns_port::write_inventory(&joined(items, packets::inventory), out)
         }
         Packet::GetBlocks(packet) | Packet::GetHeaders(packet) => {
-            let flat: Vec<u8> = packet
-                .locator
-                .iter()
-                .flat_map(|hash| *hash.as_bytes())
-                .collect();
-            hns_port::write_locator(&flat, packet.stop.as_bytes(), out)
+            let hashes = joined(&packet.locator, |hash| *hash.as_bytes());
+            hns_port::write_locator(&hashes, packet.stop.as_bytes(), out)
         }
-        Packet::Headers(headers) => {
-            let flat: Vec<u8> = headers.iter().flat_map(Header::encode).collect();
-            hns_port::write_headers(&flat, out)
-        }
-        Packet::Reject(reject) => hns_port::write_reject(
-            reject.message.as_u8(),
-            reject.code,
-            reject.reason.as_bytes(),
-            reject.hash.is_some(),
-            &reject.hash.unwrap_or([0xee; 32]),
-            out,
-        ),
+        Packet::Headers(headers) => hns_port::write_headers(&joined(headers, Header::encode), out),
+        Packet::Reject(reject) => write_reject(reject, out),
         Packet::FeeFilter(rate) => hns_port::write_feefilter(*rate, out),
         Packet::SendCmpct { mode, version } => hns_port::write_sendcmpct(*mode, *version, out),
         Packet::GetBlockTxn(request) => {
@@ -251,6 +239,11 @@ fn write(packet: &Packet, out: &mut [u8]) -> Result<usize, Refusal> {
     }
 }
 
+/// Items side by side.
+fn joined<T, B: IntoIterator<Item = u8>>(items: &[T], bytes: impl Fn(&T) -> B) -> Vec<u8> {
+    items.iter().flat_map(bytes).collect()
+}
+
 fn flat(address: &NetAddress) -> Vec<u8> {
     let mut bytes = address.time.to_le_bytes().to_vec();
     bytes.extend(address.services.to_le_bytes());
@@ -258,6 +251,17 @@ fn flat(address: &NetAddress) -> Vec<u8> {
     bytes.extend(address.port.to_le_bytes());
     bytes.extend(address.key);
     bytes
+}
+
+fn write_reject(reject: &RejectPacket, out: &mut [u8]) -> Result<usize, Refusal> {
+    hns_port::write_reject(
+        reject.message.as_u8(),
+        reject.code,
+        reject.reason.as_bytes(),
+        reject.hash.is_some(),
+        &reject.hash.unwrap_or([0xee; 32]),
+        out,
+    )
 }
 
 fn write_version(version: &VersionPacket, out: &mut [u8]) -> Result<usize, Refusal> {
