@@ -140,7 +140,7 @@ pub fn fields(case: &Case) -> Verdict {
 
 fn encoded(packet: &Packet) -> Verdict {
     let rust = packet.encode_payload();
-    let rust = rust.map_err(|error| writes::refused(packet, &error));
+    let rust = rust.map_err(|error| writes::refused(packet, error));
     Verdict::of(&owned(packet).encode_payload(), &rust)
 }
 

@@ -230,7 +230,6 @@ fn reject_seen(reject: &RejectPacket) -> Seen {
     (numbers, vec![reason.clone(), reason, hash])
 }
 
-/// An item as it stands on the wire.
 pub fn inventory(item: &Inventory) -> Vec<u8> {
     [&item.kind.as_u32().to_le_bytes()[..], &item.hash].concat()
 }

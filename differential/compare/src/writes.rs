@@ -25,7 +25,7 @@ pub fn check(case: &Case) -> Verdict {
     let mut expected = out.clone();
     let port = write(&packet, &mut out);
     let rust = rust
-        .map_err(|error| refused(&packet, &error))
+        .map_err(|error| refused(&packet, error))
         .and_then(|bytes| {
             if room < bytes.len() {
                 return Err(rust::refusal(16, bytes.len() as u64, 0));
@@ -300,7 +300,7 @@ fn field(context: &str) -> u64 {
 }
 
 /// The Rust says which index list is refused by a text, and not where: the place is looked for here.
-pub fn refused(packet: &Packet, error: &WireError) -> Refusal {
+pub fn refused(packet: &Packet, error: WireError) -> Refusal {
     match error {
         WireError::CountTooLarge {
             context,
@@ -308,7 +308,7 @@ pub fn refused(packet: &Packet, error: &WireError) -> Refusal {
             maximum,
         } => Refusal {
             c: field(context),
-            ..rust::refusal(7, *actual as u64, *maximum as u64)
+            ..rust::refusal(7, actual as u64, maximum as u64)
         },
         WireError::InvalidPacket {
             context: "reject packet",
@@ -318,11 +318,8 @@ pub fn refused(packet: &Packet, error: &WireError) -> Refusal {
             c: field(context),
             ..rust::refusal(10, 0, 0)
         },
-        WireError::CompactBlock(CompactBlockError::Malformed(text)) => list_refused(packet, text),
-        WireError::PayloadTooLarge { actual, maximum } => {
-            rust::refusal(5, *actual as u64, *maximum as u64)
-        }
-        other => panic!("no refusal for {other:?}"),
+        WireError::CompactBlock(CompactBlockError::Malformed(text)) => list_refused(packet, &text),
+        other => rust::wire_error(other),
     }
 }
 
