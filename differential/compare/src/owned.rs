@@ -34,13 +34,21 @@ macro_rules! program {
                 Packet::decode(PacketType::from_u8(number), payload)
             }
 
-            /// A payload in a frame as it is.
+            pub fn made(number: u8, payload: &[u8]) -> Result<(u8, Vec<u8>), WireError> {
+                Frame::new(PacketType::from_u8(number), payload.to_vec()).map(parts)
+            }
+
+            /// A payload in a frame as it is, also where a new frame is refused.
             pub fn framed(
                 number: u8,
                 payload: &[u8],
                 network: NetworkMagic,
             ) -> Result<Vec<u8>, WireError> {
-                Frame::new(PacketType::from_u8(number), payload.to_vec())?.encode(network)
+                let frame = Frame {
+                    packet_type: PacketType::from_u8(number),
+                    payload: payload.to_vec(),
+                };
+                frame.encode(network)
             }
 
             pub fn sent(packet: &Packet, network: NetworkMagic) -> Result<Vec<u8>, WireError> {
@@ -172,7 +180,9 @@ pub fn frame(case: &Case) -> Verdict {
     let names = Verdict::of(&port::names(number, network), &wire::names(number, theirs));
     let frame = port::framed(number, &case.bytes, network);
     let rust = wire::framed(number, &case.bytes, theirs).map_err(rust::wire_error);
-    let framed = all([names, Verdict::of(&frame, &rust)]);
+    let made = wire::made(number, &case.bytes).map_err(rust::wire_error);
+    let made = Verdict::of(&port::made(number, &case.bytes), &made);
+    let framed = all([names, made, Verdict::of(&frame, &rust)]);
     let Ok(mut bytes) = frame else {
         return framed;
     };

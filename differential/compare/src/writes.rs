@@ -1,6 +1,8 @@
 //! Packet writers given fields of their own, good and bad. A case is a type, a seed and the output's
 //! length beside that of the payload.
 
+use std::net::Ipv4Addr;
+
 use hns_header_consensus::Header;
 use hns_p2p_wire::{
     CompactBlockError, CompactBlockRequest, GetProofPacket, Inventory, InventoryKind,
@@ -60,11 +62,22 @@ fn text(rng: &mut Rng) -> String {
     text
 }
 
+/// Any ip, or one that is mapped from IPv4.
+fn ip(rng: &mut Rng) -> [u8; 16] {
+    let ip: [u8; 16] = array(rng);
+    if rng.one_in(2) {
+        return ip;
+    }
+    Ipv4Addr::new(ip[0], ip[1], ip[2], ip[3])
+        .to_ipv6_mapped()
+        .octets()
+}
+
 fn address(rng: &mut Rng) -> NetAddress {
     NetAddress {
         time: rng.next(),
         services: rng.next() >> rng.below(64),
-        ip: array(rng),
+        ip: ip(rng),
         port: rng.below(65_536) as u16,
         key: array(rng),
     }
