@@ -48,6 +48,9 @@ fn main() {
     for row in rows::INLINED {
         measure(rows::row(row, &inputs, &mut buffers), runs);
     }
+    for row in packets::called_each(&samples, &buffers) {
+        measure(row, runs);
+    }
 }
 
 fn machine() {

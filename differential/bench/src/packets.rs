@@ -132,6 +132,16 @@ pub fn rows<'a>(samples: &'a [Sample], buffers: &'a Buffers) -> Vec<Row<'a>> {
     rows
 }
 
+/// A call of the port for each item, beside the Rust's one: what a boundary costs.
+pub fn called_each<'a>(samples: &'a [Sample], buffers: &'a Buffers) -> Vec<Row<'a>> {
+    let flat = |sample: &&Sample| matches!(sample.packet_type(), 5 | 6 | 11);
+    let samples = samples.iter().filter(|sample| sample.name.contains("of"));
+    samples
+        .filter(flat)
+        .map(|s| fetch_each(s, buffers))
+        .collect()
+}
+
 impl Sample {
     fn row<'a>(
         &'a self,
@@ -178,27 +188,55 @@ impl Sample {
 
 fn read<'a>(sample: &'a Sample, buffers: &'a Buffers) -> Row<'a> {
     let mut text = [0; 255];
-    let on_port = sample.again(move || sample.read_port(&mut text));
+    let on_port = sample.again(move || {
+        let row = sample.read_port(&mut text);
+        (row[1], row[2], row[3])
+    });
     let on_rust = sample.again(|| sample.read_rust());
     sample.row("read", buffers, on_port, on_rust)
 }
 
-/// Read, and every item looked at: a call of the port for each item, or one for all indexes.
+/// Every item, with all that its payload is refused for: numbers of all items in one call, or headers
+/// one by one from their places.
 fn fetch<'a>(sample: &'a Sample, buffers: &'a Buffers) -> Row<'a> {
-    let (mut text, mut indexes) = ([0; 255], vec![0; 16_662]);
-    let on_port = sample.again(move || {
-        let row = sample.read_port(&mut text);
-        if sample.packet_type() == 24 {
-            return port::indexes(&sample.payload, &mut indexes).expect("a good one");
+    let (mut text, mut numbers) = ([0; 255], vec![0; 100_000]);
+    let (packet_type, payload) = (sample.packet_type(), &sample.payload);
+    let on_port = sample.again(move || match packet_type {
+        24 => {
+            let count = port::indexes(black_box(payload), &mut numbers).expect("a good one");
+            numbers[..count].iter().map(black_box).count()
         }
-        for place in 0..row[1] as usize {
-            let item = port::item(sample.packet_type(), &sample.payload, place);
-            black_box(item.expect("an item"));
+        11 => {
+            let row = sample.read_port(&mut text);
+            let headers = payload[row[2] as usize..].chunks(236);
+            let decoded = headers.map(|header| port::Header::decode(header).expect("236 bytes"));
+            decoded.map(black_box).count()
         }
-        row[1] as usize
+        _ => {
+            let count = port::item_numbers(packet_type, black_box(payload), &mut numbers);
+            numbers[..count.expect("a good one")]
+                .iter()
+                .map(black_box)
+                .count()
+        }
     });
     let on_rust = sample.again(|| look(&sample.read_rust()));
     sample.row("read, every item of", buffers, on_port, on_rust)
+}
+
+/// The same by a call for each item.
+fn fetch_each<'a>(sample: &'a Sample, buffers: &'a Buffers) -> Row<'a> {
+    let mut text = [0; 255];
+    let on_port = sample.again(move || {
+        let row = sample.read_port(&mut text);
+        for place in 0..row[1] as usize {
+            let item = port::item(sample.packet_type(), black_box(&sample.payload), place);
+            let item = item.expect("an item");
+            black_box((item[1], item[2]));
+        }
+    });
+    let on_rust = sample.again(|| look(&sample.read_rust()));
+    sample.row("a call for each item of", buffers, on_port, on_rust)
 }
 
 fn look(packet: &Packet) -> usize {

@@ -20,7 +20,7 @@ pub use frame::{
     encode, push,
 };
 pub use header::{HASHES_SIZE, HEADER_SIZE, Header};
-pub use packet::{PacketRow, find, indexes, item, length_card, read_packet, rewrite};
+pub use packet::{PacketRow, find, indexes, item, item_numbers, length_card, read_packet, rewrite};
 pub use writers::{
     AddressFields, VersionFields, write_addr, write_empty, write_feefilter, write_getblocktxn,
     write_getproof, write_headers, write_inventory, write_locator, write_nonce, write_raw,
