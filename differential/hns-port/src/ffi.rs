@@ -200,6 +200,15 @@ unsafe extern "C" {
         answer: *mut u64,
         answer_len: usize,
     );
+    pub fn hns_item_numbers(
+        packet_type: u8,
+        payload: *const u8,
+        payload_len: usize,
+        out: *mut u64,
+        out_len: usize,
+        answer: *mut u64,
+        answer_len: usize,
+    );
     pub fn hns_find(
         packet_type: u8,
         payload: *const u8,

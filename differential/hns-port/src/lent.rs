@@ -26,7 +26,9 @@ pub use crate::frame::{
     Delivered, Frame, FrameDecoder, Pushed, decode_exact, decode_frame_prefix, encode, push,
 };
 pub use crate::header::{EXTRA_NONCE_SIZE, HASHES_SIZE, HEADER_SIZE, Header};
-pub use crate::packet::{PacketRow, find, indexes, item, length_card, read_packet, rewrite};
+pub use crate::packet::{
+    PacketRow, find, indexes, item, item_numbers, length_card, read_packet, rewrite,
+};
 pub use crate::types::NetworkMagic;
 pub use crate::writers::{
     AddressFields, VersionFields, write_addr, write_empty, write_feefilter, write_getblocktxn,

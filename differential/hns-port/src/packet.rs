@@ -42,6 +42,19 @@ pub fn indexes(payload: &[u8], out: &mut [u64]) -> Result<usize, Refusal> {
     Ok(row[1] as usize)
 }
 
+/// The numbers of all addresses or inventory items side by side to the front of `out`, six or two for
+/// each; answers how many.
+#[inline]
+pub fn item_numbers(packet_type: u8, payload: &[u8], out: &mut [u64]) -> Result<usize, Refusal> {
+    let (bytes, len) = (payload.as_ptr(), payload.len());
+    let (to, room) = (out.as_mut_ptr(), out.len());
+    // SAFETY: as above.
+    let row = long_row(|answer, n| unsafe {
+        ffi::hns_item_numbers(packet_type, bytes, len, to, room, answer, n);
+    })?;
+    Ok(row[1] as usize)
+}
+
 /// A place of an inventory item with the hash, or none.
 ///
 /// ```
