@@ -209,7 +209,7 @@ impl Answer<'_> {
             PacketType::Ping => Packet::Ping(self.row[1].to_le_bytes()),
             PacketType::Pong => Packet::Pong(self.row[1].to_le_bytes()),
             PacketType::GetAddr => Packet::GetAddr,
-            PacketType::Addr => Packet::Addr(self.addresses()?),
+            PacketType::Addr => Packet::Addr(NetAddress::list(self.payload, self.at(1))?),
             PacketType::Inv => Packet::Inv(self.inventory()),
             PacketType::GetData => Packet::GetData(self.inventory()),
             PacketType::NotFound => Packet::NotFound(self.inventory()),
@@ -275,11 +275,6 @@ impl Answer<'_> {
             height: row[13] as u32,
             no_relay: row[14] == 1,
         }
-    }
-
-    fn addresses(&self) -> Result<Vec<NetAddress>, Refusal> {
-        let address = |place| NetAddress::at(self.payload, place);
-        (0..self.at(1)).map(address).collect()
     }
 
     fn inventory(&self) -> Vec<Inventory> {

@@ -2,7 +2,7 @@
 
 use std::net::{Ipv4Addr, Ipv6Addr, SocketAddr};
 
-use crate::{Decoder, Refusal, item, write_addr};
+use crate::{Decoder, Refusal, item_numbers, write_addr};
 
 /// The version of the protocol that a node of today announces.
 pub const PROTOCOL_VERSION: u32 = 3;
@@ -209,20 +209,21 @@ impl NetAddress {
         decoder.finish()?;
         let mut payload = [1; 1 + NET_ADDRESS_SIZE];
         payload[1..].copy_from_slice(bytes);
-        Self::at(&payload, 0)
+        Ok(Self::list(&payload, 1)?[0])
     }
 
-    /// The address at a place of an addr payload. A list of addresses is not walked to get there.
-    pub(crate) fn at(payload: &[u8], place: usize) -> Result<Self, Refusal> {
-        let [_, time, services, first, last, port, key, ..] =
-            item(PacketType::Addr.as_u8(), payload, place)?;
-        Ok(Self {
+    /// The addresses of an addr payload, which are so many.
+    pub(crate) fn list(payload: &[u8], count: usize) -> Result<Vec<Self>, Refusal> {
+        let mut items = vec![[0; 6]; count];
+        item_numbers(PacketType::Addr.as_u8(), payload, items.as_flattened_mut())?;
+        let address = |[time, services, first, last, port, key]: [u64; 6]| Self {
             time,
             services,
             ip: ip(first, last),
             port: port as u16,
             key: array(payload, key),
-        })
+        };
+        Ok(items.into_iter().map(address).collect())
     }
 
     /// The fields side by side, as the writer of an addr takes them.
