@@ -44,6 +44,10 @@ fn main() {
     for row in packets::rows(&samples, &buffers) {
         measure(row, runs);
     }
+    println!("packets with values of their own, on both sides:");
+    for row in packets::owned(&samples, &buffers) {
+        measure(row, runs);
+    }
     println!("beside the Rust inlined, where a call costs more than the work:");
     for row in rows::INLINED {
         measure(rows::row(row, &inputs, &mut buffers), runs);

@@ -142,6 +142,31 @@ pub fn called_each<'a>(samples: &'a [Sample], buffers: &'a Buffers) -> Vec<Row<'
         .collect()
 }
 
+/// The packet with values of its own on both sides.
+pub fn owned<'a>(samples: &'a [Sample], buffers: &'a Buffers) -> Vec<Row<'a>> {
+    let mut rows: Vec<Row<'a>> = samples.iter().map(|s| decode_owned(s, buffers)).collect();
+    rows.extend(samples.iter().map(|s| encode_owned(s, buffers)));
+    rows
+}
+
+fn decoded(sample: &Sample) -> port::Packet {
+    let packet_type = port::PacketType::from_u8(sample.packet_type());
+    port::Packet::decode(packet_type, black_box(&sample.payload)).expect("a good one")
+}
+
+fn decode_owned<'a>(sample: &'a Sample, buffers: &'a Buffers) -> Row<'a> {
+    let on_port = sample.again(|| decoded(sample));
+    let on_rust = sample.again(|| sample.read_rust());
+    sample.row("Packet::decode,", buffers, on_port, on_rust)
+}
+
+fn encode_owned<'a>(sample: &'a Sample, buffers: &'a Buffers) -> Row<'a> {
+    let packet = decoded(sample);
+    let on_port = sample.again(move || packet.encode_payload().expect("a good one"));
+    let on_rust = sample.again(|| sample.packet.encode_payload().expect("a good one"));
+    sample.row("encode_payload,", buffers, on_port, on_rust)
+}
+
 impl Sample {
     fn row<'a>(
         &'a self,

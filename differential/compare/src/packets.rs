@@ -101,8 +101,18 @@ fn port_seen(kind: u8, payload: &[u8], row: &PacketRow, text: &[u8]) -> Seen {
             )
         }
         2 | 3 | 21 => (vec![row[1]], vec![]),
-        5 => (vec![row[1], row[2]], vec![]),
-        6..=8 | 11 => (vec![row[1]], vec![payload[place(2)..].to_vec()]),
+        5 => {
+            let (mut numbers, keys) = port_numbers(kind, payload, place(1), 6, 33);
+            numbers.extend([row[1], row[2]]);
+            (numbers, keys)
+        }
+        6..=8 => {
+            let (mut numbers, mut hashes) = port_numbers(kind, payload, place(1), 2, 32);
+            numbers.push(row[1]);
+            hashes.push(payload[place(2)..].to_vec());
+            (numbers, hashes)
+        }
+        11 => (vec![row[1]], vec![payload[place(2)..].to_vec()]),
         9 | 10 => (
             vec![row[1]],
             vec![payload[place(2)..place(3)].to_vec(), bytes(3, 32)],
@@ -127,6 +137,20 @@ fn masked(bytes: &[u8]) -> Vec<u8> {
     bytes.iter().map(|byte| byte & 127).collect()
 }
 
+/// Numbers of all items by one call into room for them and one more: so many for each item, the last
+/// of which is a place of so many bytes.
+fn port_numbers(kind: u8, payload: &[u8], count: usize, each: usize, width: usize) -> Seen {
+    let mut out = vec![u64::MAX; count * each + 1];
+    let stored = hns_port::item_numbers(kind, payload, &mut out);
+    assert_eq!((stored, out.pop()), (Ok(count * each), Some(u64::MAX)));
+    let items = out.chunks(each);
+    let bytes = items.map(|item| payload[item[each - 1] as usize..][..width].to_vec());
+    let bytes = bytes.collect();
+    let last = |i: &usize| i % each == each - 1;
+    let numbers = (0..out.len()).filter(|i| !last(i)).map(|i| out[i]);
+    (numbers.collect(), bytes)
+}
+
 /// All indexes, stored by one call into room for them and one more.
 fn port_indexes(payload: &[u8], count: usize) -> Vec<u64> {
     let mut out = vec![u64::MAX; count + 1];
@@ -139,14 +163,23 @@ fn rust_seen(packet: &Packet) -> Seen {
     match packet {
         Packet::Version(version) => version_seen(version),
         Packet::Ping(nonce) | Packet::Pong(nonce) => (vec![u64::from_le_bytes(*nonce)], vec![]),
-        Packet::Addr(items) => (
-            vec![items.len() as u64, compact_length(items.len())],
-            vec![],
-        ),
-        Packet::Inv(items) | Packet::GetData(items) | Packet::NotFound(items) => (
-            vec![items.len() as u64],
-            vec![items.iter().flat_map(inventory).collect()],
-        ),
+        Packet::Addr(items) => {
+            let mut numbers: Vec<u64> = items.iter().flat_map(address_numbers).collect();
+            numbers.extend([items.len() as u64, compact_length(items.len())]);
+            (
+                numbers,
+                items.iter().map(|item| item.key.to_vec()).collect(),
+            )
+        }
+        Packet::Inv(items) | Packet::GetData(items) | Packet::NotFound(items) => {
+            let kinds = items.iter().map(|item| u64::from(item.kind.as_u32()));
+            let hashes = items.iter().map(|item| item.hash.to_vec());
+            let all = items.iter().flat_map(inventory).collect();
+            (
+                kinds.chain([items.len() as u64]).collect(),
+                hashes.chain([all]).collect(),
+            )
+        }
         Packet::GetBlocks(packet) | Packet::GetHeaders(packet) => {
             let hashes = packet
                 .locator

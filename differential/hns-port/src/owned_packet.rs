@@ -1,14 +1,17 @@
 //! The packet with values of its own. The library reads and writes; here bytes are copied from the
 //! places that it answers, and into the flat lists that its writers take.
 
+use std::mem::MaybeUninit;
+
+use crate::packet::read_row;
 use crate::types::{array, ip};
 use crate::writers::VersionFields;
 use crate::{
     CompactBlockRequest, GetProofPacket, Header, Inventory, InventoryKind, LocatorPacket,
     MAX_USER_AGENT_SIZE, NetAddress, PacketRow, PacketType, Refusal, RejectPacket, VersionPacket,
-    indexes, read_packet, write_addr, write_empty, write_feefilter, write_getblocktxn,
-    write_getproof, write_headers, write_inventory, write_locator, write_nonce, write_raw,
-    write_reject, write_sendcmpct, write_version,
+    indexes, write_addr, write_empty, write_feefilter, write_getblocktxn, write_getproof,
+    write_headers, write_inventory, write_locator, write_nonce, write_raw, write_reject,
+    write_sendcmpct, write_version,
 };
 
 /// A packet. Blocks, transactions and proofs are carried as the bytes that they were sent as.
@@ -142,12 +145,13 @@ impl Packet {
 
     /// Reads a payload as a packet of a type.
     pub fn decode(packet_type: PacketType, payload: &[u8]) -> Result<Self, Refusal> {
-        let mut text = [0; MAX_USER_AGENT_SIZE];
-        let number = packet_type.as_u8();
-        let row = read_packet(number, payload, &mut text)?;
-        let text = &text;
-        // The row is that of the number, so the number decides also where it is `Unknown`'s.
-        Answer { payload, row, text }.packet(PacketType::from_u8(number))
+        // The number decides, also where it is `Unknown`'s.
+        match PacketType::from_u8(packet_type.as_u8()) {
+            known @ (PacketType::Version | PacketType::Reject) => {
+                answered(known, payload, &mut [0; MAX_USER_AGENT_SIZE])
+            }
+            known => answered(known, payload, &mut []),
+        }
     }
 
     /// Writes the packet's payload.
@@ -194,14 +198,23 @@ impl Packet {
 
 // ---- reading
 
+/// Inlined, and so is what it calls, so that the packet is built where it is returned.
+#[inline(always)]
+fn answered(packet_type: PacketType, payload: &[u8], text: &mut [u8]) -> Result<Packet, Refusal> {
+    let mut row = MaybeUninit::uninit();
+    let row = read_row(packet_type.as_u8(), payload, text, &mut row)?;
+    Answer { payload, row, text }.packet(packet_type)
+}
+
 /// What the library answered about a payload: every place in the row has its bytes.
 struct Answer<'payload> {
     payload: &'payload [u8],
-    row: PacketRow,
+    row: &'payload PacketRow,
     text: &'payload [u8],
 }
 
 impl Answer<'_> {
+    #[inline(always)]
     fn packet(&self, packet_type: PacketType) -> Result<Packet, Refusal> {
         Ok(match packet_type {
             PacketType::Version => Packet::Version(self.version()),
@@ -258,7 +271,7 @@ impl Answer<'_> {
     }
 
     fn version(&self) -> VersionPacket {
-        let row = &self.row;
+        let row = self.row;
         VersionPacket {
             version: row[1] as u32,
             services: row[2],
@@ -363,13 +376,22 @@ pub(crate) fn needed(
     }
 }
 
-/// What a writer writes, in an allocation of just its length.
+/// What a writer writes, in an allocation of just its length: a short payload by one call, into a
+/// buffer that is at hand.
+#[inline]
 pub(crate) fn written(
     write: impl Fn(&mut [u8]) -> Result<usize, Refusal>,
 ) -> Result<Vec<u8>, Refusal> {
-    let mut out = vec![0; needed(&write)?];
-    write(&mut out)?;
-    Ok(out)
+    let mut short = [0; 256];
+    match write(&mut short) {
+        Ok(length) => Ok(short[..length].to_vec()),
+        Err(Refusal { number: 16, a, .. }) => {
+            let mut out = vec![0; a as usize];
+            write(&mut out)?;
+            Ok(out)
+        }
+        Err(refusal) => Err(refusal),
+    }
 }
 
 /// What a writer of flat items writes.

@@ -1,27 +1,56 @@
+use std::mem::MaybeUninit;
+
 use crate::{Refusal, ffi, length};
 
 /// What a call about packets answers: sixteen numbers, as hns_ffi.h has them.
 pub type PacketRow = [u64; 16];
 
+/// The row of an accepted call, where it was stored: a copy of numbers that were just stored one by
+/// one waits for every store.
+#[inline]
+fn stored(
+    row: &mut MaybeUninit<PacketRow>,
+    call: impl FnOnce(*mut u64, usize),
+) -> Result<&PacketRow, Refusal> {
+    call(row.as_mut_ptr().cast(), 16);
+    // SAFETY: every call stores all sixteen numbers where there is room for them.
+    let row = unsafe { row.assume_init_ref() };
+    match row[0] {
+        0 => Ok(row),
+        number => Err(Refusal {
+            number,
+            a: row[1],
+            b: row[2],
+            c: row[3],
+        }),
+    }
+}
+
 #[inline]
 fn long_row(call: impl FnOnce(*mut u64, usize)) -> Result<PacketRow, Refusal> {
-    let mut row = [0; 16];
-    call(row.as_mut_ptr(), row.len());
-    match row {
-        [0, ..] => Ok(row),
-        [number, a, b, c, ..] => Err(Refusal { number, a, b, c }),
-    }
+    stored(&mut MaybeUninit::uninit(), call).copied()
+}
+
+/// As `read_packet`, with the row in place.
+#[inline]
+pub(crate) fn read_row<'row>(
+    packet_type: u8,
+    payload: &[u8],
+    text: &mut [u8],
+    row: &'row mut MaybeUninit<PacketRow>,
+) -> Result<&'row PacketRow, Refusal> {
+    let (bytes, len) = (payload.as_ptr(), payload.len());
+    let (to, room) = (text.as_mut_ptr(), text.len());
+    // SAFETY: the pointers and counts are those of slices, and they do not overlap.
+    stored(row, |answer, n| unsafe {
+        ffi::hns_read_packet(packet_type, bytes, len, to, room, answer, n);
+    })
 }
 
 /// Reads a payload as a packet of a type. An agent or a reason goes to the front of `text`.
 #[inline]
 pub fn read_packet(packet_type: u8, payload: &[u8], text: &mut [u8]) -> Result<PacketRow, Refusal> {
-    let (bytes, len) = (payload.as_ptr(), payload.len());
-    let (to, room) = (text.as_mut_ptr(), text.len());
-    // SAFETY: the pointers and counts are those of slices, and they do not overlap.
-    long_row(|answer, n| unsafe {
-        ffi::hns_read_packet(packet_type, bytes, len, to, room, answer, n);
-    })
+    read_row(packet_type, payload, text, &mut MaybeUninit::uninit()).copied()
 }
 
 /// The item at a place of a payload's list.
