@@ -48,7 +48,7 @@
  *   all others       0, place and length of the bytes
  *   item             of 5: 0, time, services, first and last 8 bytes of the ip, port, place of the key
  *                    of 6 to 8: 0, kind, place of the hash; of 9 to 11: 0, place; of 24: 0, index
- *   indexes          0, how many
+ *   indexes, item numbers     0, how many
  *   finder           0, 1, place of the item in the list; 0, 0 where the hash stands nowhere
  *   length card      0, least, greatest
  *
@@ -150,6 +150,11 @@ void hns_item(uint8_t packet_type, const uint8_t *payload, size_t payload_len, s
 /* All indexes of a getblocktxn payload; 16 counts the numbers that `out` must have. */
 void hns_indexes(const uint8_t *payload, size_t payload_len, uint64_t *out, size_t out_len,
                  uint64_t *answer, size_t answer_len);
+/* The numbers of all addresses or inventory items side by side, as in the rows of hns_item: six numbers
+ * or two for each, and none for other types. Answers how many numbers; 16 counts those that `out` must
+ * have. A call for each item costs more than the item, so this is for whole lists. */
+void hns_item_numbers(uint8_t packet_type, const uint8_t *payload, size_t payload_len,
+                      uint64_t *out, size_t out_len, uint64_t *answer, size_t answer_len);
 /* A place where a hash of 32 bytes stands among the inventory items. */
 void hns_find(uint8_t packet_type, const uint8_t *payload, size_t payload_len,
               const uint8_t *hash, size_t hash_len, uint64_t *answer, size_t answer_len);

@@ -1,5 +1,5 @@
-//! Links libhns_ffi.a, libhns_ffi_frames.a and libhns_ffi_packets.a: from the folder that HNS_FFI_LIB names, or from where
-//! `rt staticlib` writes them.
+//! Links libhns_ffi.a, libhns_ffi_frames.a, libhns_ffi_packets.a and libhns_ffi_writers.a: from the folder that
+//! HNS_FFI_LIB names, or from where `rt staticlib` writes them.
 use std::env;
 use std::path::{Path, PathBuf};
 

@@ -4,6 +4,7 @@ ghost use Rattle.hns_encoding.specs.Bytes.{rawAt};
 ghost use Rattle.hns_p2p_types.specs.Packets.{readPacket};
 ghost use Rattle.hns_p2p_items.specs.Items.{itemOf, listedOf};
 ghost use Rattle.hns_p2p_indexes.specs.Indexes.{storedOf};
+ghost use Rattle.hns_p2p_item_numbers.specs.Numbers.{numbersOf};
 ghost use Rattle.hns_p2p_card.specs.Card.{cardRow};
 ghost use Rattle.hns_p2p_wire.specs.Demand3.{rewriting};
 ghost use Rattle.hns_rows.specs.Rows.{answered, encodedRow};
@@ -38,6 +39,20 @@ pub extern "C" fn hns_indexes(payload: &[u8], out: &mut [u64], answer: &mut [u64
     ensures { λ _. ⌜ now (out .exit) ≡ storedOf (now (payload .entry)) (now (out .entry)) .output ⌝ }
 {
     let stored = hns_p2p_indexes::indexes(payload, out);
+    hns_packet_rows::put_row(answer, hns_packet_rows::of_stored(stored));
+}
+
+#[no_mangle]
+pub extern "C" fn hns_item_numbers(
+    packet_type: u8,
+    payload: &[u8],
+    out: &mut [u64],
+    answer: &mut [u64],
+)
+    ensures { λ _. ⌜ now (answer .exit) ≡ answered (now (answer .entry)) (storedRow (numbersOf «packet_type» (now (payload .entry)) (now (out .entry)) .answer)) ⌝ }
+    ensures { λ _. ⌜ now (out .exit) ≡ numbersOf «packet_type» (now (payload .entry)) (now (out .entry)) .output ⌝ }
+{
+    let stored = hns_p2p_item_numbers::item_numbers(packet_type, payload, out);
     hns_packet_rows::put_row(answer, hns_packet_rows::of_stored(stored));
 }
 

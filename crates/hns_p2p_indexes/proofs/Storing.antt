@@ -82,13 +82,13 @@ module _ (k base : ℕ) (s : List ℕ) (p : ℕ) (r : Reads (suc k) base s p) {r
       let same-next : f .next ≡ next = cc in
       subst (λ (n : ℕ). Turn k base s p d n) same-next (subst (λ (n : ℕ). Turn k base s p n (f .next)) same-d (made-turn k base s p f))
 
-splice-none : (o : List ℕ) (p : ℕ) → splice o p [] ≡ o
+pub splice-none : (o : List ℕ) (p : ℕ) → splice o p [] ≡ o
 splice-none o p =
     let here : p + 0 ≡ p = omega arith in
     splice-fits o p [] (omega arith) ∙ rw here (take-append-drop p o)
 
 -- one more to an output
-splice-cons : (o : List ℕ) (p x : ℕ) (xs : List ℕ) → splice o p (x ∷ xs) ≡ splice (set o p x) (p + 1) xs
+pub splice-cons : (o : List ℕ) (p x : ℕ) (xs : List ℕ) → splice o p (x ∷ xs) ≡ splice (set o p x) (p + 1) xs
 splice-cons o p x xs = splice-append o p (x ∷ []) xs ∙ ap (λ (l : List ℕ). splice l (p + 1) xs) (splice-byte o p x)
 
 module _ {count : ℕ} {s : List ℕ} {first : ℕ} {o₀ o : List ℕ} {i base next : ℕ} (t : StoredTo count s first o₀ o i base next) where

@@ -19,6 +19,7 @@ use Rattle.hns_p2p_types.specs.declared.Found.the-variants as F
 use Rattle.hns_p2p_types.specs.declared.Stored.{Stored}
 use Rattle.hns_p2p_types.specs.declared.Stored.the-variants as S
 use Rattle.hns_p2p_types.specs.Packets.{signedBits}
+use Rattle.hns_p2p_item_numbers.specs.Numbers.{addressNumbers, inventoryNumbers}
 use Rattle.hns_p2p_card.specs.declared.Row.{Row}
 
 -- sixteen numbers of which these are the first
@@ -36,9 +37,6 @@ itemsRow i = row (i .count ∷ i .first ∷ [])
 
 abbrev pub spanRow : Span → List ℕ
 spanRow s = row (s .start ∷ s .length ∷ [])
-
-abbrev pub addressNumbers : NetAddress → List ℕ
-addressNumbers a = a .time ∷ a .services ∷ a .«ip_first» ∷ a .«ip_last» ∷ a .port ∷ a .key ∷ []
 
 abbrev pub bit : Bool → ℕ
 bit true = 1
@@ -89,7 +87,7 @@ packetRow (P.Refused r) = refusedRow r
 
 unfoldable pub itemRow : Item → List ℕ
 itemRow (I.Address a) = row (addressNumbers a)
-itemRow (I.Inventory kind hash) = row (kind ∷ hash ∷ [])
+itemRow (I.Inventory kind hash) = row (inventoryNumbers kind hash)
 itemRow (I.Hash p) = row (p ∷ [])
 itemRow (I.Header p) = row (p ∷ [])
 itemRow (I.Index i) = row (i ∷ [])

@@ -18,8 +18,9 @@ ghost use mathlib.Core.List.{_∷_, []};
 ghost use Prim.Native.Nat.{_≤_};
 ghost use lib.ListN.{length};
 ghost use lib.Seq.{paste};
+ghost use Rattle.hns_p2p_item_numbers.specs.Numbers.{addressNumbers};
 ghost use Rattle.hns_rows.specs.Rows.{answered};
-ghost use Rattle.hns_packet_rows.specs.Rows.{row, refusedRow, itemsRow, spanRow, addressNumbers, bit, versionRow, hashNumbers, packetRow, itemRow, foundRow, storedRow, cardNumbers};
+ghost use Rattle.hns_packet_rows.specs.Rows.{row, refusedRow, itemsRow, spanRow, bit, versionRow, hashNumbers, packetRow, itemRow, foundRow, storedRow, cardNumbers};
 
 fn of_refusal(refusal: Refusal) -> [u64; 16]
     ensures { λ r. ⌜ r ≡ refusedRow refusal ⌝ }

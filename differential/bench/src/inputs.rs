@@ -18,7 +18,7 @@ pub struct Inputs {
 
 impl Inputs {
     pub fn new() -> Self {
-        let mut noise = Noise(1);
+        let mut noise = Noise::new();
         let small = frames(&mut noise, 4_000_000, |_| 21);
         let mixed = frames(&mut noise, 15_000_000, seen);
         let large = frame(&mut noise, 8_000_000);
@@ -84,21 +84,29 @@ fn frame(noise: &mut Noise, length: usize) -> Vec<u8> {
         .expect("a short payload")
 }
 
-struct Noise(u64);
+pub struct Noise(u64);
 
 impl Noise {
-    fn next(&mut self) -> u64 {
+    pub const fn new() -> Self {
+        Self(1)
+    }
+
+    pub fn array<const N: usize>(&mut self) -> [u8; N] {
+        std::array::from_fn(|_| self.next() as u8)
+    }
+
+    pub fn next(&mut self) -> u64 {
         self.0 ^= self.0 << 13;
         self.0 ^= self.0 >> 7;
         self.0 ^= self.0 << 17;
         self.0
     }
 
-    fn below(&mut self, n: usize) -> usize {
+    pub fn below(&mut self, n: usize) -> usize {
         (self.next() % n as u64) as usize
     }
 
-    fn bytes(&mut self, n: usize) -> Vec<u8> {
+    pub fn bytes(&mut self, n: usize) -> Vec<u8> {
         (0..n).map(|_| self.next() as u8).collect()
     }
 }

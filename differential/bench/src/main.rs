@@ -8,13 +8,14 @@
 //! a first run that is not counted; the frames that it delivers are dropped after each push.
 
 mod inputs;
+mod packets;
 mod rows;
 
 use std::time::Instant;
 
 /// One measured row: what each side does in a run, over how many bytes.
 pub struct Row<'a> {
-    pub name: &'static str,
+    pub name: String,
     pub bytes: usize,
     pub port: Box<dyn FnMut() + 'a>,
     pub rust: Box<dyn FnMut() + 'a>,
@@ -30,7 +31,7 @@ fn main() {
     machine();
     println!("medians of {runs} runs; MB/s of input; ratios of time, below 1 is faster");
     println!(
-        "{:<46}{:>9}{:>9}{:>9}{:>12}{:>12}",
+        "{:<56}{:>9}{:>9}{:>9}{:>12}{:>12}",
         "", "port", "Rust", "copy", "port/Rust", "port/copy"
     );
     let inputs = inputs::Inputs::new();
@@ -38,9 +39,17 @@ fn main() {
     for row in rows::NAMES {
         measure(rows::row(row, &inputs, &mut buffers), runs);
     }
+    println!("packets:");
+    let samples = packets::samples();
+    for row in packets::rows(&samples, &buffers) {
+        measure(row, runs);
+    }
     println!("beside the Rust inlined, where a call costs more than the work:");
     for row in rows::INLINED {
         measure(rows::row(row, &inputs, &mut buffers), runs);
+    }
+    for row in packets::called_each(&samples, &buffers) {
+        measure(row, runs);
     }
 }
 
@@ -71,7 +80,7 @@ fn measure(mut row: Row<'_>, runs: usize) {
     let [port, rust, copy] = times.map(median);
     let speed = |time: f64| row.bytes as f64 / time / 1e6;
     println!(
-        "{:<46}{:>9.0}{:>9.0}{:>9.0}{:>12.2}{:>12.2}",
+        "{:<56}{:>9.0}{:>9.0}{:>9.0}{:>12.2}{:>12.2}",
         row.name,
         speed(port),
         speed(rust),

@@ -5,7 +5,7 @@ use std::hint::black_box;
 
 use hns_header_consensus::Header as Published;
 use hns_p2p_wire as rust;
-use hns_port as port;
+use hns_port::lent as port;
 
 use crate::Row;
 use crate::inputs::Inputs;
@@ -15,8 +15,8 @@ const STREAM: usize = 16_000_018;
 /// What is lent in every run.
 pub struct Buffers {
     store: RefCell<Vec<u8>>,
-    output: RefCell<Vec<u8>>,
-    copied: RefCell<Vec<u8>>,
+    pub output: RefCell<Vec<u8>>,
+    pub copied: RefCell<Vec<u8>>,
 }
 
 impl Buffers {
@@ -96,7 +96,7 @@ pub fn row<'a>(name: &'static str, inputs: &'a Inputs, buffers: &'a mut Buffers)
         _ => write(bytes, buffers),
     };
     Row {
-        name,
+        name: name.to_owned(),
         bytes: bytes.len(),
         port,
         rust,
@@ -104,10 +104,10 @@ pub fn row<'a>(name: &'static str, inputs: &'a Inputs, buffers: &'a mut Buffers)
     }
 }
 
-type Side<'a> = Box<dyn FnMut() + 'a>;
+pub type Side<'a> = Box<dyn FnMut() + 'a>;
 
 /// Each chunk after the one before, from the front again where there is no more room.
-fn copy(bytes: &[u8], chunk: usize, to: &mut [u8]) {
+pub fn copy(bytes: &[u8], chunk: usize, to: &mut [u8]) {
     let mut at = 0;
     for part in bytes.chunks(chunk) {
         if at + part.len() > to.len() {

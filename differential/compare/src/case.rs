@@ -31,11 +31,15 @@ pub enum Kind {
     Find,
     Rewrite,
     Write,
+    OwnedPacket,
+    OwnedFields,
+    OwnedFrame,
+    OwnedStream,
     Row,
 }
 
 impl Kind {
-    pub const ALL: [Self; 26] = [
+    pub const ALL: [Self; 30] = [
         Self::ReadU8,
         Self::ReadU16,
         Self::ReadU32,
@@ -61,6 +65,10 @@ impl Kind {
         Self::Find,
         Self::Rewrite,
         Self::Write,
+        Self::OwnedPacket,
+        Self::OwnedFields,
+        Self::OwnedFrame,
+        Self::OwnedStream,
         Self::Row,
     ];
 
@@ -68,7 +76,9 @@ impl Kind {
     pub const fn share(self) -> u64 {
         match self {
             Self::Stream | Self::Rewrite | Self::Packet | Self::Write => 8,
+            Self::OwnedPacket | Self::OwnedFields | Self::OwnedFrame => 4,
             Self::FramePrefix | Self::FrameExact | Self::Reads | Self::Puts => 2,
+            Self::OwnedStream => 2,
             _ => 1,
         }
     }
@@ -101,6 +111,10 @@ impl Kind {
             Self::Find => "a hash among inventory items (type, place)",
             Self::Rewrite => "Packet::encode_payload (type, room)",
             Self::Write => "writers by themselves (type, seed, room)",
+            Self::OwnedPacket => "owned: Packet, read and written (type)",
+            Self::OwnedFields => "owned: Packet of fields (type, seed)",
+            Self::OwnedFrame => "owned: Frame of a packet (type, change)",
+            Self::OwnedStream => "owned: FrameDecoder::push (chunks)",
             Self::Row => "rows that do not fit (room)",
         }
     }

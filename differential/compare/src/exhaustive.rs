@@ -102,7 +102,9 @@ pub fn payloads(short: bool, run: &mut impl FnMut(&Case)) {
     for packet_type in 0..=255_u8 {
         let mut ask = |bytes: Vec<u8>| {
             let room = bytes.len() as u64;
-            for (kind, second) in [(Kind::Rewrite, room), (Kind::Packet, 255), (Kind::Item, 0)] {
+            let kinds = [(Kind::Rewrite, room), (Kind::Packet, 255), (Kind::Item, 0)];
+            let owned = [(Kind::OwnedPacket, 0), (Kind::OwnedFrame, 0)];
+            for (kind, second) in kinds.into_iter().chain(owned) {
                 let numbers = [u64::from(packet_type), second];
                 run(&Case::new(kind, bytes.clone(), &numbers));
             }

@@ -8,7 +8,7 @@ use crate::case::{Case, NETWORKS, Verdict};
 use crate::rust;
 
 pub fn prefix(case: &Case) -> Verdict {
-    let port = hns_port::decode_frame_prefix(NETWORKS[case.network], &case.bytes);
+    let port = hns_port::lent::decode_frame_prefix(NETWORKS[case.network], &case.bytes);
     let rust = hns_p2p_wire::decode_frame_prefix(rust::NETWORKS[case.network], &case.bytes)
         .map_err(rust::wire_error);
     let seen = rust.as_ref().map_err(|e| *e);

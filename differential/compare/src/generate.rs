@@ -36,16 +36,14 @@ pub fn case(rng: &mut Rng, kind: Kind) -> Case {
         Kind::HeaderDecode | Kind::HeaderRead | Kind::HeaderPut => header(rng, kind),
         Kind::FramePrefix | Kind::FrameExact | Kind::Row => front(rng, kind),
         Kind::FrameEncode => written(rng),
-        Kind::Stream => stream(rng),
-        Kind::Write => {
-            let types = [0, 1, 2, 3, 5, 6, 9, 11, 15, 17, 21, 22, 24, 26];
-            Case::new(
-                kind,
-                Vec::new(),
-                &[rng.pick(&types), rng.next(), rng.below(5)],
-            )
+        Kind::Stream | Kind::OwnedStream => stream(rng, kind),
+        Kind::Write | Kind::OwnedFields => {
+            let numbers = [fields_type(rng), rng.next(), rng.below(5)];
+            Case::new(kind, Vec::new(), &numbers)
         }
         Kind::Packet | Kind::Item | Kind::Find | Kind::Rewrite => packet(rng, kind),
+        Kind::OwnedPacket => packet(rng, kind),
+        Kind::OwnedFrame => packet(rng, kind).on(rng.index(NETWORKS.len())),
     };
     // The network of a case with frames is the one that they were made for, or another.
     let wrong = rng.one_in(40);
@@ -302,7 +300,7 @@ fn written(rng: &mut Rng) -> Case {
 }
 
 /// Mixed frames, sometimes damaged, in random chunks, with pushes that are turned away between.
-fn stream(rng: &mut Rng) -> Case {
+fn stream(rng: &mut Rng, kind: Kind) -> Case {
     let network = rng.index(NETWORKS.len());
     let mut bytes = Vec::new();
     let frames = if rng.one_in(50) {
@@ -324,7 +322,7 @@ fn stream(rng: &mut Rng) -> Case {
         bytes.extend_from_slice(&rng.bytes(more));
     }
     let numbers = chunks(rng, bytes.len());
-    Case::new(Kind::Stream, bytes, &numbers).on(network)
+    Case::new(kind, bytes, &numbers).on(network)
 }
 
 fn chunks(rng: &mut Rng, total: usize) -> Vec<u64> {
@@ -340,6 +338,17 @@ fn chunks(rng: &mut Rng, total: usize) -> Vec<u64> {
         left -= n;
     }
     numbers
+}
+
+/// A type that is not carried; half of the time one with fields that can be bad.
+fn fields_type(rng: &mut Rng) -> u64 {
+    if rng.one_in(2) {
+        return rng.pick(&[0, 5, 6, 9, 11, 15, 24]);
+    }
+    match rng.below(31) {
+        13 | 14 | 23 | 25 | 27 => 30 + rng.below(226),
+        other => other,
+    }
 }
 
 fn packet(rng: &mut Rng, kind: Kind) -> Case {

@@ -78,7 +78,7 @@ pub fn put(case: &Case) -> Verdict {
 }
 
 /// The Rust's header with the port's names for its types.
-fn ported(header: &Published) -> Header {
+pub fn ported(header: &Published) -> Header {
     Header {
         nonce: header.nonce,
         time: header.time.get(),

@@ -9,6 +9,7 @@ mod frames;
 pub mod generate;
 mod headers;
 pub mod limits;
+mod owned;
 mod packets;
 mod puts;
 mod reads;
@@ -38,6 +39,10 @@ pub fn check(case: &Case) -> Verdict {
         Kind::Find => packets::find(case),
         Kind::Rewrite => packets::rewrite(case),
         Kind::Write => writes::check(case),
+        Kind::OwnedPacket => owned::packet(case),
+        Kind::OwnedFields => owned::fields(case),
+        Kind::OwnedFrame => owned::frame(case),
+        Kind::OwnedStream => owned::stream(case),
         Kind::Row => frames::row(case),
         _ => reads::check(case),
     }

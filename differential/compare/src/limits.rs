@@ -62,7 +62,13 @@ fn asked(packet_type: u64, bytes: Vec<u8>, count: u64, run: &mut impl FnMut(&Cas
             &[packet_type, room],
         ));
     }
-    run(&Case::new(Kind::Packet, bytes.clone(), &[packet_type, 255]));
+    for (kind, second) in [
+        (Kind::Packet, 255),
+        (Kind::OwnedPacket, 0),
+        (Kind::OwnedFrame, 0),
+    ] {
+        run(&Case::new(kind, bytes.clone(), &[packet_type, second]));
+    }
     for place in [0, count - 1, count, u64::MAX] {
         run(&Case::new(Kind::Item, bytes.clone(), &[packet_type, place]));
         for other in 0..2 {
@@ -81,7 +87,9 @@ fn payloads(rng: &mut Rng, run: &mut impl FnMut(&Case)) {
         let bytes = rng.bytes(length);
         for packet_type in [0, 1, 6, 17, 24, 29, 30, 255] {
             let room = length as u64;
-            for (kind, second) in [(Kind::Rewrite, room), (Kind::Packet, 255), (Kind::Item, 0)] {
+            let kinds = [(Kind::Rewrite, room), (Kind::Packet, 255), (Kind::Item, 0)];
+            let owned = [(Kind::OwnedPacket, 0), (Kind::OwnedFrame, 0)];
+            for (kind, second) in kinds.into_iter().chain(owned) {
                 run(&Case::new(kind, bytes.clone(), &[packet_type, second]));
             }
         }
@@ -146,7 +154,9 @@ fn over(rng: &mut Rng, network: usize, run: &mut impl FnMut(&Case)) {
     for bytes in [&two, &longer, &stuck] {
         for list in lists {
             let numbers: Vec<u64> = list.iter().map(|n| *n as u64).collect();
-            run(&Case::new(Kind::Stream, bytes.clone(), &numbers).on(network));
+            for kind in [Kind::Stream, Kind::OwnedStream] {
+                run(&Case::new(kind, bytes.clone(), &numbers).on(network));
+            }
         }
     }
 }

@@ -10,7 +10,7 @@ use crate::case::{Case, Verdict};
 use crate::rust;
 
 /// Types that the port reads as raw bytes, and the Rust as what they carry.
-const CARRIED: [u8; 5] = [13, 14, 23, 25, 27];
+pub const CARRIED: [u8; 5] = [13, 14, 23, 25, 27];
 
 /// What a packet holds: numbers, and bytes that stand in the payload or were put out as text.
 type Seen = (Vec<u64>, Vec<Vec<u8>>);
@@ -33,7 +33,7 @@ fn field(context: &str) -> u64 {
 }
 
 /// An error of a packet. The Rust has one text for every index that passes 65,535.
-fn packet_error(error: WireError) -> Refusal {
+pub fn packet_error(error: WireError) -> Refusal {
     match error {
         WireError::CountTooLarge {
             context,
@@ -230,7 +230,7 @@ fn reject_seen(reject: &RejectPacket) -> Seen {
     (numbers, vec![reason.clone(), reason, hash])
 }
 
-fn inventory(item: &Inventory) -> Vec<u8> {
+pub fn inventory(item: &Inventory) -> Vec<u8> {
     [&item.kind.as_u32().to_le_bytes()[..], &item.hash].concat()
 }
 

@@ -11,7 +11,7 @@ use crate::rust;
 pub const SHORT_OUTPUT: u64 = 1 << 62;
 pub const SHORT_STORE: u64 = 1 << 61;
 pub const HELD_OVER: u64 = 1 << 60;
-const LENGTH: u64 = HELD_OVER - 1;
+pub const LENGTH: u64 = HELD_OVER - 1;
 
 /// Bytes of store and output past what a push needs.
 const SLACK: usize = 16;

@@ -1,6 +1,8 @@
 //! Packet writers given fields of their own, good and bad. A case is a type, a seed and the output's
 //! length beside that of the payload.
 
+use std::net::Ipv4Addr;
+
 use hns_header_consensus::Header;
 use hns_p2p_wire::{
     CompactBlockError, CompactBlockRequest, GetProofPacket, Inventory, InventoryKind,
@@ -11,6 +13,7 @@ use hns_primitives::{BlockHash, NameHash, TreeRoot};
 
 use crate::buffer::{filled, splice};
 use crate::case::{Case, Verdict};
+use crate::packets;
 use crate::rng::Rng;
 use crate::rust;
 
@@ -24,7 +27,7 @@ pub fn check(case: &Case) -> Verdict {
     let mut expected = out.clone();
     let port = write(&packet, &mut out);
     let rust = rust
-        .map_err(|error| refused(&packet, &error))
+        .map_err(|error| refused(&packet, error))
         .and_then(|bytes| {
             if room < bytes.len() {
                 return Err(rust::refusal(16, bytes.len() as u64, 0));
@@ -59,11 +62,22 @@ fn text(rng: &mut Rng) -> String {
     text
 }
 
+/// Any ip, or one that is mapped from IPv4.
+fn ip(rng: &mut Rng) -> [u8; 16] {
+    let ip: [u8; 16] = array(rng);
+    if rng.one_in(2) {
+        return ip;
+    }
+    Ipv4Addr::new(ip[0], ip[1], ip[2], ip[3])
+        .to_ipv6_mapped()
+        .octets()
+}
+
 fn address(rng: &mut Rng) -> NetAddress {
     NetAddress {
         time: rng.next(),
         services: rng.next() >> rng.below(64),
-        ip: array(rng),
+        ip: ip(rng),
         port: rng.below(65_536) as u16,
         key: array(rng),
     }
@@ -139,15 +153,17 @@ fn indexes(rng: &mut Rng) -> Vec<usize> {
         .collect()
 }
 
-fn packet(rng: &mut Rng, packet_type: u8) -> Packet {
+pub fn packet(rng: &mut Rng, packet_type: u8) -> Packet {
     match packet_type {
         0 => Packet::Version(version(rng)),
-        1 => Packet::Verack,
         2 => Packet::Ping(array(rng)),
         3 => Packet::Pong(array(rng)),
         5 => Packet::Addr(many(rng, 1_000, address)),
         6 => Packet::Inv(many(rng, 50_000, inventory)),
+        7 => Packet::GetData(many(rng, 50_000, inventory)),
+        8 => Packet::NotFound(many(rng, 50_000, inventory)),
         9 => Packet::GetBlocks(locator(rng)),
+        10 => Packet::GetHeaders(locator(rng)),
         11 => Packet::Headers(many(rng, 2_000, |rng| {
             Header::decode(&array::<236>(rng)).expect("every 236 bytes are a header")
         })),
@@ -165,11 +181,38 @@ fn packet(rng: &mut Rng, packet_type: u8) -> Packet {
             root: TreeRoot::new(array(rng)),
             key: NameHash::new(array(rng)),
         }),
-        _ => {
-            let n = rng.index(80);
-            Packet::FilterLoad(rng.bytes(n))
-        }
+        _ => plain(rng, packet_type),
     }
+}
+
+/// Packets without fields: empty, or raw bytes.
+fn plain(rng: &mut Rng, packet_type: u8) -> Packet {
+    match packet_type {
+        1 => Packet::Verack,
+        4 => Packet::GetAddr,
+        12 => Packet::SendHeaders,
+        16 => Packet::Mempool,
+        19 => Packet::FilterClear,
+        17 => Packet::FilterLoad(raw(rng)),
+        18 => Packet::FilterAdd(raw(rng)),
+        20 => Packet::MerkleBlock(raw(rng)),
+        28 => Packet::Claim(raw(rng)),
+        29 => Packet::Airdrop(raw(rng)),
+        _ => Packet::Unknown {
+            packet_type,
+            payload: raw(rng),
+        },
+    }
+}
+
+/// Raw bytes, rarely as many as a payload may have or one more.
+fn raw(rng: &mut Rng) -> Vec<u8> {
+    let n = if rng.one_in(2_000) {
+        8_000_000 + rng.index(2)
+    } else {
+        rng.index(80)
+    };
+    rng.bytes(n)
 }
 
 // ---- the port's calls
@@ -180,36 +223,16 @@ fn write(packet: &Packet, out: &mut [u8]) -> Result<usize, Refusal> {
         Packet::Ping(nonce) | Packet::Pong(nonce) => {
             hns_port::write_nonce(u64::from_le_bytes(*nonce), out)
         }
-        Packet::Addr(items) => {
-            hns_port::write_addr(&items.iter().flat_map(flat).collect::<Vec<_>>(), out)
+        Packet::Addr(items) => hns_port::write_addr(&joined(items, flat), out),
+        Packet::Inv(items) | Packet::GetData(items) | Packet::NotFound(items) => {
+            hns_port::write_inventory(&joined(items, packets::inventory), out)
         }
-        Packet::Inv(items) => {
-            let flat: Vec<u8> = items
-                .iter()
-                .flat_map(|item| [&item.kind.as_u32().to_le_bytes()[..], &item.hash].concat())
-                .collect();
-            hns_port::write_inventory(&flat, out)
+        Packet::GetBlocks(packet) | Packet::GetHeaders(packet) => {
+            let hashes = joined(&packet.locator, |hash| *hash.as_bytes());
+            hns_port::write_locator(&hashes, packet.stop.as_bytes(), out)
         }
-        Packet::GetBlocks(packet) => {
-            let flat: Vec<u8> = packet
-                .locator
-                .iter()
-                .flat_map(|hash| *hash.as_bytes())
-                .collect();
-            hns_port::write_locator(&flat, packet.stop.as_bytes(), out)
-        }
-        Packet::Headers(headers) => {
-            let flat: Vec<u8> = headers.iter().flat_map(Header::encode).collect();
-            hns_port::write_headers(&flat, out)
-        }
-        Packet::Reject(reject) => hns_port::write_reject(
-            reject.message.as_u8(),
-            reject.code,
-            reject.reason.as_bytes(),
-            reject.hash.is_some(),
-            &reject.hash.unwrap_or([0xee; 32]),
-            out,
-        ),
+        Packet::Headers(headers) => hns_port::write_headers(&joined(headers, Header::encode), out),
+        Packet::Reject(reject) => write_reject(reject, out),
         Packet::FeeFilter(rate) => hns_port::write_feefilter(*rate, out),
         Packet::SendCmpct { mode, version } => hns_port::write_sendcmpct(*mode, *version, out),
         Packet::GetBlockTxn(request) => {
@@ -219,9 +242,19 @@ fn write(packet: &Packet, out: &mut [u8]) -> Result<usize, Refusal> {
         Packet::GetProof(proof) => {
             hns_port::write_getproof(proof.root.as_bytes(), proof.key.as_bytes(), out)
         }
-        Packet::FilterLoad(payload) => hns_port::write_raw(payload, out),
+        Packet::FilterLoad(payload)
+        | Packet::FilterAdd(payload)
+        | Packet::MerkleBlock(payload)
+        | Packet::Claim(payload)
+        | Packet::Airdrop(payload)
+        | Packet::Unknown { payload, .. } => hns_port::write_raw(payload, out),
         _ => hns_port::write_empty(out),
     }
+}
+
+/// Items side by side.
+fn joined<T, B: IntoIterator<Item = u8>>(items: &[T], bytes: impl Fn(&T) -> B) -> Vec<u8> {
+    items.iter().flat_map(bytes).collect()
 }
 
 fn flat(address: &NetAddress) -> Vec<u8> {
@@ -231,6 +264,17 @@ fn flat(address: &NetAddress) -> Vec<u8> {
     bytes.extend(address.port.to_le_bytes());
     bytes.extend(address.key);
     bytes
+}
+
+fn write_reject(reject: &RejectPacket, out: &mut [u8]) -> Result<usize, Refusal> {
+    hns_port::write_reject(
+        reject.message.as_u8(),
+        reject.code,
+        reject.reason.as_bytes(),
+        reject.hash.is_some(),
+        &reject.hash.unwrap_or([0xee; 32]),
+        out,
+    )
 }
 
 fn write_version(version: &VersionPacket, out: &mut [u8]) -> Result<usize, Refusal> {
@@ -269,7 +313,7 @@ fn field(context: &str) -> u64 {
 }
 
 /// The Rust says which index list is refused by a text, and not where: the place is looked for here.
-fn refused(packet: &Packet, error: &WireError) -> Refusal {
+pub fn refused(packet: &Packet, error: WireError) -> Refusal {
     match error {
         WireError::CountTooLarge {
             context,
@@ -277,7 +321,7 @@ fn refused(packet: &Packet, error: &WireError) -> Refusal {
             maximum,
         } => Refusal {
             c: field(context),
-            ..rust::refusal(7, *actual as u64, *maximum as u64)
+            ..rust::refusal(7, actual as u64, maximum as u64)
         },
         WireError::InvalidPacket {
             context: "reject packet",
@@ -287,8 +331,8 @@ fn refused(packet: &Packet, error: &WireError) -> Refusal {
             c: field(context),
             ..rust::refusal(10, 0, 0)
         },
-        WireError::CompactBlock(CompactBlockError::Malformed(text)) => list_refused(packet, text),
-        other => panic!("no refusal for {other:?}"),
+        WireError::CompactBlock(CompactBlockError::Malformed(text)) => list_refused(packet, &text),
+        other => rust::wire_error(other),
     }
 }
 

@@ -1,6 +1,17 @@
 use crate::{Refusal, Row, answer, ffi, row};
 
 /// Reads from the front of a slice on. A refused read leaves the place where it was.
+///
+/// ```
+/// use hns_port::Decoder;
+///
+/// let mut decoder = Decoder::new(&[0xfd, 0xfd, 0x00, 7]);
+/// assert_eq!(decoder.read_compact_size()?, 253);
+/// assert_eq!(decoder.read_u16_le().unwrap_err().number, 1);
+/// assert_eq!(decoder.read_u8()?, 7);
+/// decoder.finish()?;
+/// # Ok::<(), hns_port::Refusal>(())
+/// ```
 #[derive(Clone, Copy, Debug)]
 pub struct Decoder<'input> {
     input: &'input [u8],
@@ -16,6 +27,7 @@ fn two(row: &Row) -> (u64, u64) {
 type Read = unsafe extern "C" fn(*const u8, usize, usize, *mut u64, usize);
 
 impl<'input> Decoder<'input> {
+    /// Reads from the first byte on.
     #[inline]
     pub const fn new(input: &'input [u8]) -> Self {
         Self::at(input, 0)
@@ -27,36 +39,43 @@ impl<'input> Decoder<'input> {
         Self { input, position }
     }
 
+    /// The next byte to read.
     #[inline]
     pub const fn position(&self) -> usize {
         self.position
     }
 
+    /// How many bytes are left.
     #[inline]
     pub const fn remaining(&self) -> usize {
         self.input.len().saturating_sub(self.position)
     }
 
+    /// A number of one byte.
     #[inline]
     pub fn read_u8(&mut self) -> Result<u8, Refusal> {
         Ok(self.number(ffi::hns_read_u8)? as u8)
     }
 
+    /// A number of two bytes, the lowest first.
     #[inline]
     pub fn read_u16_le(&mut self) -> Result<u16, Refusal> {
         Ok(self.number(ffi::hns_read_u16_le)? as u16)
     }
 
+    /// A number of four bytes, the lowest first.
     #[inline]
     pub fn read_u32_le(&mut self) -> Result<u32, Refusal> {
         Ok(self.number(ffi::hns_read_u32_le)? as u32)
     }
 
+    /// A number of eight bytes, the lowest first.
     #[inline]
     pub fn read_u64_le(&mut self) -> Result<u64, Refusal> {
         self.number(ffi::hns_read_u64_le)
     }
 
+    /// A compact size, which must be in its shortest form.
     #[inline]
     pub fn read_compact_size(&mut self) -> Result<u64, Refusal> {
         self.number(ffi::hns_read_compact_size)
@@ -76,6 +95,7 @@ impl<'input> Decoder<'input> {
         count as usize
     }
 
+    /// A compact size that is not over a limit.
     #[inline]
     pub fn read_compact_usize(&mut self, maximum: usize) -> Result<usize, Refusal> {
         let (input, len, at) = self.parts();
@@ -88,6 +108,7 @@ impl<'input> Decoder<'input> {
         Ok(value as usize)
     }
 
+    /// So many bytes.
     #[inline]
     pub fn read_slice(&mut self, length: usize) -> Result<&'input [u8], Refusal> {
         let (input, len, at) = self.parts();
@@ -95,6 +116,7 @@ impl<'input> Decoder<'input> {
         self.slice(|answer, n| unsafe { ffi::hns_read_slice(input, len, at, length, answer, n) })
     }
 
+    /// So many bytes, if that is not over a limit.
     #[inline]
     pub fn read_bounded(&mut self, length: usize, maximum: usize) -> Result<&'input [u8], Refusal> {
         let (input, len, at) = self.parts();
@@ -104,6 +126,7 @@ impl<'input> Decoder<'input> {
         })
     }
 
+    /// A compact size that is not over a limit, and as many bytes.
     #[inline]
     pub fn read_varbytes(&mut self, maximum: usize) -> Result<&'input [u8], Refusal> {
         let (input, len, at) = self.parts();
@@ -113,6 +136,7 @@ impl<'input> Decoder<'input> {
         })
     }
 
+    /// Refuses bytes that are left.
     #[inline]
     pub fn finish(self) -> Result<(), Refusal> {
         let (input, len, at) = self.parts();
@@ -154,51 +178,60 @@ pub struct Encoder<'out> {
 }
 
 impl<'out> Encoder<'out> {
+    /// Puts from the first byte on.
     #[inline]
     pub const fn new(out: &'out mut [u8]) -> Self {
         Self::at(out, 0)
     }
 
+    /// Puts from a place on, which may be past the end.
     #[inline]
     pub const fn at(out: &'out mut [u8], position: usize) -> Self {
         Self { out, position }
     }
 
+    /// The place after what was put.
     #[inline]
     pub const fn position(&self) -> usize {
         self.position
     }
 
+    /// A number of one byte.
     #[inline]
     pub fn put_u8(&mut self, value: u8) {
         // SAFETY: the pointer and the count are those of the lent slice.
         self.put(|out, len, at| unsafe { ffi::hns_put_u8(value, out, len, at) });
     }
 
+    /// A number of two bytes, the lowest first.
     #[inline]
     pub fn put_u16_le(&mut self, value: u16) {
         // SAFETY: as above.
         self.put(|out, len, at| unsafe { ffi::hns_put_u16_le(value, out, len, at) });
     }
 
+    /// A number of four bytes, the lowest first.
     #[inline]
     pub fn put_u32_le(&mut self, value: u32) {
         // SAFETY: as above.
         self.put(|out, len, at| unsafe { ffi::hns_put_u32_le(value, out, len, at) });
     }
 
+    /// A number of eight bytes, the lowest first.
     #[inline]
     pub fn put_u64_le(&mut self, value: u64) {
         // SAFETY: as above.
         self.put(|out, len, at| unsafe { ffi::hns_put_u64_le(value, out, len, at) });
     }
 
+    /// A compact size in its shortest form.
     #[inline]
     pub fn put_compact_size(&mut self, value: u64) {
         // SAFETY: as above.
         self.put(|out, len, at| unsafe { ffi::hns_put_compact_size(value, out, len, at) });
     }
 
+    /// Bytes.
     #[inline]
     pub fn put_bytes(&mut self, value: &[u8]) {
         let (bytes, count) = (value.as_ptr(), value.len());
@@ -206,6 +239,7 @@ impl<'out> Encoder<'out> {
         self.put(|out, len, at| unsafe { ffi::hns_put_bytes(bytes, count, out, len, at) });
     }
 
+    /// A compact size and as many bytes.
     #[inline]
     pub fn put_varbytes(&mut self, value: &[u8]) {
         let (bytes, count) = (value.as_ptr(), value.len());

@@ -1,4 +1,7 @@
-//! The functions of libhns_ffi.a, libhns_ffi_frames.a and libhns_ffi_packets.a, as crates/hns_ffi/hns_ffi.h has them.
+//! The functions of libhns_ffi.a, libhns_ffi_frames.a, libhns_ffi_packets.a and libhns_ffi_writers.a, as
+//! crates/hns_ffi/hns_ffi.h declares them and says what each does.
+
+#![allow(missing_docs)]
 
 unsafe extern "C" {
     pub fn hns_read_u8(
@@ -190,6 +193,15 @@ unsafe extern "C" {
         answer_len: usize,
     );
     pub fn hns_indexes(
+        payload: *const u8,
+        payload_len: usize,
+        out: *mut u64,
+        out_len: usize,
+        answer: *mut u64,
+        answer_len: usize,
+    );
+    pub fn hns_item_numbers(
+        packet_type: u8,
         payload: *const u8,
         payload_len: usize,
         out: *mut u64,

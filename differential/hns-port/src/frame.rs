@@ -1,20 +1,11 @@
-use crate::{Refusal, answer, ffi, row};
-
-pub const FRAME_HEADER_SIZE: usize = 9;
-
-#[derive(Clone, Copy, Debug, Eq, Hash, PartialEq)]
-#[repr(u8)]
-pub enum NetworkMagic {
-    Mainnet,
-    Testnet,
-    Regtest,
-    Simnet,
-}
+use crate::{FRAME_HEADER_SIZE, NetworkMagic, Refusal, answer, ffi, length, row};
 
 /// A frame: its payload is a part of the caller's slice.
 #[derive(Clone, Copy, Debug, Eq, PartialEq)]
 pub struct Frame<'input> {
+    /// The type of its packet.
     pub packet_type: u8,
+    /// The packet's payload.
     pub payload: &'input [u8],
 }
 
@@ -63,25 +54,27 @@ pub fn encode(
     out: &mut [u8],
 ) -> Result<usize, Refusal> {
     let (bytes, len) = (payload.as_ptr(), payload.len());
-    let (to, room) = (out.as_mut_ptr(), out.len());
     // SAFETY: as above.
-    let call = |answer, n| unsafe {
+    length(out, |to, room, answer, n| unsafe {
         ffi::hns_encode_frame(network as u8, packet_type, bytes, len, to, room, answer, n);
-    };
-    row(call, |row| row.at(1) as usize)
+    })
 }
 
 /// What a push delivered: as many frames, their encodings this long at the output's front.
 #[derive(Clone, Copy, Debug, Default, Eq, PartialEq)]
 pub struct Delivered {
+    /// How many frames.
     pub frames: usize,
+    /// How long their encodings are.
     pub bytes: usize,
 }
 
 /// A push's answer and the held count after it.
 #[derive(Clone, Copy, Debug, Eq, PartialEq)]
 pub struct Pushed {
+    /// What was delivered, or why nothing was.
     pub answer: Result<Delivered, Refusal>,
+    /// The held count for the next push.
     pub held: usize,
 }
 
@@ -146,16 +139,19 @@ impl<'store> FrameDecoder<'store> {
         }
     }
 
+    /// How many bytes wait for the rest of their frame.
     #[inline]
     pub const fn buffered_len(&self) -> usize {
         self.held
     }
 
+    /// The store, which the held bytes are the first of.
     #[inline]
     pub const fn store(&self) -> &[u8] {
         self.store
     }
 
+    /// Takes input, and puts the frames that are whole by now to the output's front.
     #[inline]
     pub fn push(&mut self, input: &[u8], output: &mut [u8]) -> Result<Delivered, Refusal> {
         let pushed = push(self.network, self.store, self.held, input, output);

@@ -2,25 +2,52 @@ use std::mem::{MaybeUninit, offset_of};
 
 use crate::{Encoder, Refusal, Row, ffi, row};
 
+/// The bytes of a header.
 pub const HEADER_SIZE: usize = 236;
+
+/// The bytes of a header's extra nonce.
+pub const EXTRA_NONCE_SIZE: usize = 24;
 
 /// A header's hashes side by side.
 pub const HASHES_SIZE: usize = 216;
 
+/// A block's header. The Rust has types of their own for most fields.
+///
+/// ```
+/// use hns_port::{HEADER_SIZE, Header};
+///
+/// let header = Header { time: 1_580_745_078, bits: 0x1c00_ffff, ..Header::default() };
+/// let bytes = header.encode();
+/// assert_eq!(bytes.len(), HEADER_SIZE);
+/// assert_eq!(Header::decode(&bytes)?, header);
+/// assert_eq!(Header::decode(&bytes[1..]).unwrap_err().number, 15);
+/// # Ok::<(), hns_port::Refusal>(())
+/// ```
 // The hashes stand last and in the library's order, so that it reads and writes them in place.
 #[derive(Clone, Debug, Default, Eq, PartialEq)]
 #[repr(C)]
 pub struct Header {
+    /// When the block was made.
     pub time: u64,
+    /// What a miner counts up.
     pub nonce: u32,
+    /// The block's version.
     pub version: u32,
+    /// The target, in its short form.
     pub bits: u32,
+    /// The hash of the block before.
     pub previous_block: [u8; 32],
+    /// The root of the tree of names.
     pub tree_root: [u8; 32],
-    pub extra_nonce: [u8; 24],
+    /// More room for a miner to count in.
+    pub extra_nonce: [u8; EXTRA_NONCE_SIZE],
+    /// Kept for later use.
     pub reserved_root: [u8; 32],
+    /// The root of the witnesses.
     pub witness_root: [u8; 32],
+    /// The root of the transactions.
     pub merkle_root: [u8; 32],
+    /// What the hash of the work is masked with.
     pub mask: [u8; 32],
 }
 
@@ -28,6 +55,7 @@ const HASHES: usize = offset_of!(Header, previous_block);
 const _: () = assert!(offset_of!(Header, mask) + 32 == HASHES + HASHES_SIZE);
 
 impl Header {
+    /// Reads 236 bytes; any other length is refused by 15.
     #[inline]
     pub fn decode(input: &[u8]) -> Result<Self, Refusal> {
         let (bytes, len) = (input.as_ptr(), input.len());
@@ -48,6 +76,7 @@ impl Header {
         })
     }
 
+    /// The header's bytes.
     #[inline]
     pub fn encode(&self) -> [u8; HEADER_SIZE] {
         let mut out = [0; HEADER_SIZE];
@@ -55,6 +84,7 @@ impl Header {
         out
     }
 
+    /// Puts the header's bytes.
     #[inline]
     pub fn encode_to(&self, encoder: &mut Encoder<'_>) {
         let (hashes, m) = (self.hashes(), HASHES_SIZE);

@@ -1,9 +1,38 @@
-//! The proved Handshake codec from Rust: safe calls over its static library, under the names of
-//! the published crates.
+//! The proved Handshake codec for Rust: safe calls over its static libraries, under the names of the
+//! published crates. A program for `hns_p2p_wire` has `use hns_port::..` in its place.
+//!
+//! ```
+//! use hns_port::{Packet, PacketType};
+//!
+//! let payload = [1, 2, 3, 4, 5, 6, 7, 8];
+//! let packet = Packet::decode(PacketType::Ping, &payload)?;
+//! assert_eq!(packet, Packet::Ping(payload));
+//! assert_eq!(packet.encode_payload()?, payload);
+//! # Ok::<(), hns_port::Refusal>(())
+//! ```
+//!
+//! What is read, refused or written is decided by the proved code: a decode is one call of it (and a
+//! second for addresses and indexes, which are no bytes of the payload), and copies of the bytes at the
+//! places that it answers. What differs from the Rust:
+//!
+//! - a [`Refusal`] is a number and its values; `WireError` is another name for it;
+//! - hashes and roots are `[u8; 32]`, a header's numbers are plain;
+//! - blocks, transactions, compact blocks and proofs are the bytes that they were sent as.
+//!
+//! [`lent`] has the calls without allocations.
+//!
+//! # Linking
+//!
+//! The libraries are taken from the folder that HNS_FFI_LIB names, or from target/staticlib of the
+//! repository, where `rt staticlib hns_ffi`, `hns_ffi_frames`, `hns_ffi_packets` and `hns_ffi_writers`
+//! put them.
+//!
+//! # Why every function is safe
 //!
 //! The library asks nothing of its callers but what a Rust slice already is: a pointer that is not
-//! null, a count, and no overlap of what is lent to be changed. So there is nothing left to test
-//! here, and every function is safe.
+//! null, a count, and no overlap of what is lent to be changed. So there is nothing left to test here.
+
+#![warn(missing_docs)]
 
 use std::mem::MaybeUninit;
 
@@ -11,33 +40,22 @@ mod encoding;
 pub mod ffi;
 mod frame;
 mod header;
+pub mod lent;
+mod owned_frame;
+mod owned_packet;
 mod packet;
+mod refusal;
+mod types;
 mod writers;
 
-pub use encoding::{Decoder, Encoder};
-pub use frame::{
-    Delivered, Frame, FrameDecoder, NetworkMagic, Pushed, decode_exact, decode_frame_prefix,
-    encode, push,
-};
-pub use header::{HASHES_SIZE, HEADER_SIZE, Header};
-pub use packet::{PacketRow, find, indexes, item, length_card, read_packet, rewrite};
-pub use writers::{
-    AddressFields, VersionFields, write_addr, write_empty, write_feefilter, write_getblocktxn,
-    write_getproof, write_headers, write_inventory, write_locator, write_nonce, write_raw,
-    write_reject, write_sendcmpct, write_version,
-};
+pub use lent::*;
+pub use owned_frame::{Frame, FrameDecoder, decode_frame_prefix};
+pub use owned_packet::Packet;
+pub use refusal::{Refusal, WireError};
+pub use types::*;
 
 /// The folder of the libraries that were linked.
 pub const LIBRARIES: &str = env!("HNS_FFI_LIBRARIES");
-
-/// A refusal by its number and its values, 0 where it has none.
-#[derive(Clone, Copy, Debug, Eq, Hash, PartialEq)]
-pub struct Refusal {
-    pub number: u64,
-    pub a: u64,
-    pub b: u64,
-    pub c: u64,
-}
 
 /// An answer of the library: six numbers.
 struct Row([u64; 6]);
@@ -74,4 +92,17 @@ fn row<T>(call: impl FnOnce(*mut u64, usize), says: impl FnOnce(&Row) -> T) -> R
         0 => Ok(says(row)),
         _ => Err(row.refusal()),
     })
+}
+
+/// The length that a call writes to a lent output, which it takes with the row.
+#[inline]
+fn length(
+    out: &mut [u8],
+    call: impl FnOnce(*mut u8, usize, *mut u64, usize),
+) -> Result<usize, Refusal> {
+    let (to, room) = (out.as_mut_ptr(), out.len());
+    row(
+        |answer, n| call(to, room, answer, n),
+        |row| row.at(1) as usize,
+    )
 }

@@ -1,4 +1,4 @@
-use crate::{Refusal, ffi, row};
+use crate::{Refusal, ffi, length};
 
 /// What a call about packets answers: sixteen numbers, as hns_ffi.h has them.
 pub type PacketRow = [u64; 16];
@@ -42,7 +42,30 @@ pub fn indexes(payload: &[u8], out: &mut [u64]) -> Result<usize, Refusal> {
     Ok(row[1] as usize)
 }
 
+/// The numbers of all addresses or inventory items side by side to the front of `out`, six or two for
+/// each; answers how many.
+#[inline]
+pub fn item_numbers(packet_type: u8, payload: &[u8], out: &mut [u64]) -> Result<usize, Refusal> {
+    let (bytes, len) = (payload.as_ptr(), payload.len());
+    let (to, room) = (out.as_mut_ptr(), out.len());
+    // SAFETY: as above.
+    let row = long_row(|answer, n| unsafe {
+        ffi::hns_item_numbers(packet_type, bytes, len, to, room, answer, n);
+    })?;
+    Ok(row[1] as usize)
+}
+
 /// A place of an inventory item with the hash, or none.
+///
+/// ```
+/// use hns_port::{Inventory, InventoryKind, Packet, find};
+///
+/// let item = |byte| Inventory { kind: InventoryKind::Transaction, hash: [byte; 32] };
+/// let payload = Packet::Inv(vec![item(1), item(2)]).encode_payload()?;
+/// assert_eq!(find(6, &payload, &[2; 32])?, Some(1));
+/// assert_eq!(find(6, &payload, &[3; 32])?, None);
+/// # Ok::<(), hns_port::Refusal>(())
+/// ```
 #[inline]
 pub fn find(packet_type: u8, payload: &[u8], hash: &[u8; 32]) -> Result<Option<usize>, Refusal> {
     let (bytes, len) = (payload.as_ptr(), payload.len());
@@ -67,10 +90,8 @@ pub fn length_card(packet_type: u8) -> (u64, u64) {
 #[inline]
 pub fn rewrite(packet_type: u8, payload: &[u8], out: &mut [u8]) -> Result<usize, Refusal> {
     let (bytes, len) = (payload.as_ptr(), payload.len());
-    let (to, room) = (out.as_mut_ptr(), out.len());
     // SAFETY: as above.
-    let call = |answer, n| unsafe {
+    length(out, |to, room, answer, n| unsafe {
         ffi::hns_rewrite(packet_type, bytes, len, to, room, answer, n);
-    };
-    row(call, |row| row.at(1) as usize)
+    })
 }

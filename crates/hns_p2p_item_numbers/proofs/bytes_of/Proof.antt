@@ -1,0 +1,12 @@
+use mathlib.Core.Path.{_≡_}
+use Rattle.hns_p2p_item_numbers.proofs.bytes_of.Statement.{statement}
+use Rattle.hns_p2p_item_numbers.proofs.bytes_of.Tie as tie
+
+returns : tie.Need-returns
+returns c = rw (c .if1 .taken)
+
+returns-2 : tie.Need-returns-2
+returns-2 c = rw (c .if1 .left)
+
+pub bytes-of-spec : {M : Type 1} → statement M
+bytes-of-spec = tie.close (tie.spec returns returns-2)

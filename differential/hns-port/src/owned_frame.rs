@@ -1,0 +1,137 @@
+//! The frame and the stream with buffers of their own.
+
+use crate::owned_packet::{needed, written};
+use crate::{NetworkMagic, Packet, PacketType, Refusal, lent, write_raw};
+
+/// A frame.
+///
+/// ```
+/// use hns_port::{Frame, NetworkMagic, Packet};
+///
+/// let frame = Frame::from_packet(&Packet::Ping([1, 2, 3, 4, 5, 6, 7, 8]))?;
+/// let bytes = frame.encode(NetworkMagic::Mainnet)?;
+/// assert_eq!(bytes[..9], [0xd3, 0xf2, 0x6e, 0x5b, 2, 8, 0, 0, 0]);
+///
+/// let read = Frame::decode_exact(NetworkMagic::Mainnet, &bytes)?;
+/// assert_eq!(read.decode_packet()?, Packet::Ping([1, 2, 3, 4, 5, 6, 7, 8]));
+/// # Ok::<(), hns_port::Refusal>(())
+/// ```
+#[derive(Clone, Debug, Eq, PartialEq)]
+pub struct Frame {
+    /// The type of its packet.
+    pub packet_type: PacketType,
+    /// The packet's payload.
+    pub payload: Vec<u8>,
+}
+
+impl Frame {
+    /// A frame of a payload, which is refused by 5 where it is too long.
+    pub fn new(packet_type: PacketType, payload: Vec<u8>) -> Result<Self, Refusal> {
+        needed(|out| write_raw(&payload, out))?;
+        Ok(Self {
+            packet_type,
+            payload,
+        })
+    }
+
+    /// The frame of a packet.
+    pub fn from_packet(packet: &Packet) -> Result<Self, Refusal> {
+        Self::new(packet.packet_type(), packet.encode_payload()?)
+    }
+
+    /// Reads the payload as a packet of the frame's type.
+    pub fn decode_packet(&self) -> Result<Packet, Refusal> {
+        Packet::decode(self.packet_type, &self.payload)
+    }
+
+    /// Writes the frame.
+    pub fn encode(&self, network: NetworkMagic) -> Result<Vec<u8>, Refusal> {
+        written(|out| lent::encode(network, self.packet_type.as_u8(), &self.payload, out))
+    }
+
+    /// Reads bytes that are one frame.
+    pub fn decode_exact(network: NetworkMagic, input: &[u8]) -> Result<Self, Refusal> {
+        lent::decode_exact(network, input).map(Self::from)
+    }
+}
+
+impl From<lent::Frame<'_>> for Frame {
+    fn from(frame: lent::Frame<'_>) -> Self {
+        Self {
+            packet_type: PacketType::from_u8(frame.packet_type),
+            payload: frame.payload.to_vec(),
+        }
+    }
+}
+
+/// The frame that bytes begin with and how many it takes; none where it is not yet there.
+pub fn decode_frame_prefix(
+    network: NetworkMagic,
+    input: &[u8],
+) -> Result<Option<(Frame, usize)>, Refusal> {
+    let whole = lent::decode_frame_prefix(network, input)?;
+    Ok(whole.map(|(frame, taken)| (frame.into(), taken)))
+}
+
+/// A stream of frames.
+///
+/// ```
+/// use hns_port::{Frame, FrameDecoder, NetworkMagic, Packet};
+///
+/// let bytes = Frame::from_packet(&Packet::Verack)?.encode(NetworkMagic::Regtest)?;
+/// let mut stream = FrameDecoder::new(NetworkMagic::Regtest);
+/// assert_eq!(stream.push(&bytes[..5])?, []);
+/// assert_eq!(stream.buffered_len(), 5);
+///
+/// let frames = stream.push(&bytes[5..])?;
+/// assert_eq!(frames[0].decode_packet()?, Packet::Verack);
+/// assert_eq!(stream.buffered_len(), 0);
+/// # Ok::<(), hns_port::Refusal>(())
+/// ```
+#[derive(Clone, Debug)]
+pub struct FrameDecoder {
+    network: NetworkMagic,
+    store: Vec<u8>,
+    held: usize,
+    output: Vec<u8>,
+}
+
+impl FrameDecoder {
+    /// A stream that holds nothing.
+    pub const fn new(network: NetworkMagic) -> Self {
+        Self {
+            network,
+            store: Vec::new(),
+            held: 0,
+            output: Vec::new(),
+        }
+    }
+
+    /// How many bytes wait for the rest of their frame.
+    pub const fn buffered_len(&self) -> usize {
+        self.held
+    }
+
+    /// Takes bytes, and gives the frames that are whole by now. After a refusal by 4 or 5 the bytes are
+    /// held, and the stream does not go on; after one by 6 the stream is as it was.
+    pub fn push(&mut self, input: &[u8]) -> Result<Vec<Frame>, Refusal> {
+        let delivered = loop {
+            let (store, output) = (&mut self.store, &mut self.output);
+            let pushed = lent::push(self.network, store, self.held, input, output);
+            self.held = pushed.held;
+            // These two change nothing, and say the length that is needed.
+            match pushed.answer {
+                Err(Refusal { number: 17, a, .. }) => store.resize(a as usize, 0),
+                Err(Refusal { number: 16, a, .. }) => output.resize(a as usize, 0),
+                answer => break answer?,
+            }
+        };
+        let mut rest = &self.output[..delivered.bytes];
+        let mut frames = Vec::with_capacity(delivered.frames);
+        while let Some((frame, taken)) = decode_frame_prefix(self.network, rest)? {
+            frames.push(frame);
+            rest = &rest[taken..];
+        }
+        Ok(frames)
+    }
+}
