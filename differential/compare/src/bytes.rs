@@ -26,23 +26,22 @@ impl Case {
         Self::new(kind, from.to_vec(), &numbers).on(network)
     }
 
-    /// The bytes that the case is made from; none where its numbers are out of their bounds.
-    pub fn to_bytes(&self) -> Option<Vec<u8>> {
-        let kind = Kind::ALL.iter().position(|kind| *kind == self.kind)?;
-        let mut bytes = vec![kind as u8, self.network as u8];
-        for (i, number) in self.numbers.iter().enumerate() {
-            if i == most(self.kind) || bounded(self.kind, i, *number) != *number {
-                return None;
-            }
+    /// The bytes that the case is made from, with its numbers brought within their bounds.
+    pub fn to_bytes(&self) -> Vec<u8> {
+        let kind = Kind::ALL.iter().position(|kind| *kind == self.kind);
+        let mut bytes = vec![kind.expect("one of all") as u8, self.network as u8];
+        let most = most(self.kind);
+        for (i, number) in self.numbers.iter().take(most).enumerate() {
+            let number = bounded(self.kind, i, *number);
             let length = 8 - number.leading_zeros() as usize / 8;
             bytes.push(length as u8);
             bytes.extend_from_slice(&number.to_le_bytes()[..length]);
         }
-        if self.numbers.len() < most(self.kind) {
+        if self.numbers.len() < most {
             bytes.push(END);
         }
         bytes.extend_from_slice(&self.bytes);
-        Some(bytes)
+        bytes
     }
 }
 
@@ -64,7 +63,7 @@ fn number(from: &mut &[u8]) -> Option<u64> {
 /// As many numbers as a kind takes: a list of them is as long as the generators' longest.
 const fn most(kind: Kind) -> usize {
     match kind {
-        Kind::Stream => 600,
+        Kind::Stream | Kind::OwnedStream => 600,
         _ => 40,
     }
 }
@@ -75,9 +74,9 @@ const fn most(kind: Kind) -> usize {
 const fn bounded(kind: Kind, i: usize, number: u64) -> u64 {
     let free = match kind {
         Kind::CompactUsize | Kind::Slice | Kind::Bounded | Kind::Varbytes => true,
-        Kind::Reads | Kind::Stream | Kind::Item | Kind::Find => true,
+        Kind::Reads | Kind::Stream | Kind::OwnedStream | Kind::Item | Kind::Find => true,
         Kind::Puts => i > 1,
-        Kind::Write => i == 1,
+        Kind::Write | Kind::OwnedFields => i == 1,
         _ => false,
     };
     if free { number } else { number % ROOM }

@@ -25,8 +25,8 @@ pub unsafe extern "C" fn LLVMFuzzerCustomMutator(
     let mut rng = Rng::new(seed.into());
     let case = Case::from_bytes(input);
     let made = match rng.below(8) {
-        0 => generate::case(&mut rng, case.kind).to_bytes(),
-        1 => within(case, room).to_bytes(),
+        0 => Some(generate::case(&mut rng, case.kind).to_bytes()),
+        1 => Some(within(case, room).to_bytes()),
         _ => None,
     };
     match made.filter(|made| made.len() <= room) {

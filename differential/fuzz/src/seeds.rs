@@ -57,15 +57,12 @@ fn thinned(seeds: &mut Vec<Vec<u8>>) {
 
 /// The input that a case is made from, where that is short enough.
 fn seed(case: &Case) -> Option<Vec<u8>> {
-    let bytes = case.to_bytes().filter(|bytes| bytes.len() <= LONGEST)?;
+    let bytes = case.to_bytes();
     let again = Case::from_bytes(&bytes);
     let same = (again.kind, again.network) == (case.kind, case.network);
-    let same = same && again.numbers == case.numbers && again.bytes == case.bytes;
-    assert!(
-        same,
-        "not the case that the input is made from:\n{case}{again}"
-    );
-    Some(bytes)
+    let same = same && again.bytes == case.bytes && again.to_bytes() == bytes;
+    assert!(same, "an input of another case:\n{case}{again}");
+    (bytes.len() <= LONGEST).then_some(bytes)
 }
 
 fn store(folder: &Path, seeds: &[Vec<u8>]) -> io::Result<()> {
