@@ -2,6 +2,7 @@
 //! runs lists of them.
 
 mod buffer;
+pub mod bytes;
 pub mod case;
 pub mod exhaustive;
 mod frames;
