@@ -13,7 +13,7 @@ use crate::rust;
 const CARRIED: [u8; 5] = [13, 14, 23, 25, 27];
 
 /// What a packet holds: numbers, and bytes that stand in the payload or were put out as text.
-type Seen = (Vec<u64>, Vec<Vec<u8>>);
+pub type Seen = (Vec<u64>, Vec<Vec<u8>>);
 
 fn packet_type(case: &Case) -> u8 {
     case.number(0) as u8
@@ -33,7 +33,7 @@ fn field(context: &str) -> u64 {
 }
 
 /// An error of a packet. The Rust has one text for every index that passes 65,535.
-fn packet_error(error: WireError) -> Refusal {
+pub fn packet_error(error: WireError) -> Refusal {
     match error {
         WireError::CountTooLarge {
             context,
@@ -48,8 +48,8 @@ fn packet_error(error: WireError) -> Refusal {
     }
 }
 
-fn decode(case: &Case) -> Result<Packet, Refusal> {
-    Packet::decode(PacketType::from_u8(packet_type(case)), &case.bytes).map_err(packet_error)
+pub fn decode(kind: u8, payload: &[u8]) -> Result<Packet, Refusal> {
+    Packet::decode(PacketType::from_u8(kind), payload).map_err(packet_error)
 }
 
 /// The packet, and the output for its text with the bytes that are left alone.
@@ -60,15 +60,17 @@ pub fn read(case: &Case) -> Verdict {
     }
     let mut text = filled(case.number(1) as usize);
     let mut expected = text.clone();
-    let port = hns_port::read_packet(kind, &case.bytes, &mut text)
-        .map(|row| port_seen(kind, &case.bytes, &row, &text));
-    let rust = decode(case).and_then(|packet| {
-        let put = words(&packet);
-        if expected.len() < put.len() {
-            return Err(rust::refusal(16, put.len() as u64, 0));
-        }
-        splice(&mut expected, 0, put.as_bytes());
-        Ok(rust_seen(&packet))
+    let port = hns_port::read_packet(kind, &case.bytes, &mut text).map(|row| {
+        let indexes = match kind {
+            24 => port_indexes(&case.bytes, row[1] as usize),
+            _ => vec![],
+        };
+        (port_seen(kind, &case.bytes, &row), indexes)
+    });
+    let rust = decode(kind, &case.bytes).and_then(|packet| {
+        let put = rust::fits(words(&packet).into(), expected.len())?;
+        splice(&mut expected, 0, &put);
+        Ok((rust_seen(&packet), indexes(&packet)))
     });
     let answers = Verdict::of(&port, &rust);
     if answers.differs() || text == expected {
@@ -77,7 +79,8 @@ pub fn read(case: &Case) -> Verdict {
     Verdict::of(&text, &expected)
 }
 
-fn words(packet: &Packet) -> &str {
+/// The text that a packet puts out.
+pub fn words(packet: &Packet) -> &str {
     match packet {
         Packet::Version(version) => &version.agent,
         Packet::Reject(reject) => &reject.reason,
@@ -85,20 +88,13 @@ fn words(packet: &Packet) -> &str {
     }
 }
 
-fn port_seen(kind: u8, payload: &[u8], row: &PacketRow, text: &[u8]) -> Seen {
+fn port_seen(kind: u8, payload: &[u8], row: &PacketRow) -> Seen {
     let place = |i: usize| row[i] as usize;
     let bytes = |i: usize, n: usize| payload[place(i)..][..n].to_vec();
     match kind {
         0 => {
             let numbers = [&row[1..9], &[row[10], row[13], row[14]]].concat();
-            (
-                numbers,
-                vec![
-                    bytes(9, 33),
-                    masked(&bytes(11, place(12))),
-                    text[..place(12)].to_vec(),
-                ],
-            )
+            (numbers, vec![bytes(9, 33), masked(&bytes(11, place(12)))])
         }
         2 | 3 | 21 => (vec![row[1]], vec![]),
         5 => (vec![row[1], row[2]], vec![]),
@@ -110,13 +106,10 @@ fn port_seen(kind: u8, payload: &[u8], row: &PacketRow, text: &[u8]) -> Seen {
         15 => {
             let hash = if row[5] == 1 { bytes(6, 32) } else { vec![] };
             let reason = masked(&bytes(3, place(4)));
-            (
-                vec![row[1], row[2], row[5]],
-                vec![reason, text[..place(4)].to_vec(), hash],
-            )
+            (vec![row[1], row[2], row[5]], vec![reason, hash])
         }
         22 => (row[1..3].to_vec(), vec![]),
-        24 => (port_indexes(payload, place(1)), vec![bytes(3, 32)]),
+        24 => (row[1..3].to_vec(), vec![bytes(3, 32)]),
         26 => (vec![], vec![bytes(1, 32), bytes(2, 32)]),
         1 | 4 | 12 | 16 | 19 => (vec![], vec![]),
         _ => (vec![], vec![bytes(1, place(2))]),
@@ -135,7 +128,15 @@ fn port_indexes(payload: &[u8], count: usize) -> Vec<u64> {
     out
 }
 
-fn rust_seen(packet: &Packet) -> Seen {
+/// The indexes of a getblocktxn; no other packet has any.
+pub fn indexes(packet: &Packet) -> Vec<u64> {
+    match packet {
+        Packet::GetBlockTxn(request) => request.indexes.iter().map(|i| *i as u64).collect(),
+        _ => vec![],
+    }
+}
+
+pub fn rust_seen(packet: &Packet) -> Seen {
     match packet {
         Packet::Version(version) => version_seen(version),
         Packet::Ping(nonce) | Packet::Pong(nonce) => (vec![u64::from_le_bytes(*nonce)], vec![]),
@@ -166,8 +167,11 @@ fn rust_seen(packet: &Packet) -> Seen {
         Packet::FeeFilter(rate) => (vec![*rate as u64], vec![]),
         Packet::SendCmpct { mode, version } => (vec![u64::from(*mode), *version], vec![]),
         Packet::GetBlockTxn(request) => {
-            let indexes = request.indexes.iter().map(|index| *index as u64).collect();
-            (indexes, vec![request.block_hash.as_bytes().to_vec()])
+            let count = request.indexes.len();
+            (
+                vec![count as u64, 32 + compact_length(count)],
+                vec![request.block_hash.as_bytes().to_vec()],
+            )
         }
         Packet::GetProof(proof) => (
             vec![],
@@ -212,10 +216,7 @@ fn version_seen(version: &VersionPacket) -> Seen {
         u64::from(version.no_relay),
     ]);
     let agent = version.agent.as_bytes().to_vec();
-    (
-        numbers,
-        vec![version.remote.key.to_vec(), agent.clone(), agent],
-    )
+    (numbers, vec![version.remote.key.to_vec(), agent])
 }
 
 fn reject_seen(reject: &RejectPacket) -> Seen {
@@ -227,10 +228,10 @@ fn reject_seen(reject: &RejectPacket) -> Seen {
         u64::from(reject.code),
         present,
     ];
-    (numbers, vec![reason.clone(), reason, hash])
+    (numbers, vec![reason, hash])
 }
 
-fn inventory(item: &Inventory) -> Vec<u8> {
+pub fn inventory(item: &Inventory) -> Vec<u8> {
     [&item.kind.as_u32().to_le_bytes()[..], &item.hash].concat()
 }
 
@@ -242,8 +243,7 @@ pub fn item(case: &Case) -> Verdict {
     }
     let port =
         hns_port::item(kind, &case.bytes, place).map(|row| port_item(kind, &case.bytes, &row));
-    let rust = decode(case)
-        .and_then(|packet| rust_item(&packet, place).ok_or_else(|| rust::refusal(19, 0, 0)));
+    let rust = decode(kind, &case.bytes).and_then(|packet| rust_item(&packet, place));
     Verdict::of(&port, &rust)
 }
 
@@ -258,7 +258,12 @@ fn port_item(kind: u8, payload: &[u8], row: &PacketRow) -> Seen {
     }
 }
 
-fn rust_item(packet: &Packet, place: usize) -> Option<Seen> {
+/// The item at a place; 19 is the port's own refusal.
+pub fn rust_item(packet: &Packet, place: usize) -> Result<Seen, Refusal> {
+    listed(packet, place).ok_or_else(|| rust::refusal(19, 0, 0))
+}
+
+fn listed(packet: &Packet, place: usize) -> Option<Seen> {
     Some(match packet {
         Packet::Addr(items) => {
             let address = items.get(place)?;
@@ -280,17 +285,22 @@ fn rust_item(packet: &Packet, place: usize) -> Option<Seen> {
     })
 }
 
+/// The items that a hash is looked for among.
+pub fn inventories(packet: &Packet) -> &[Inventory] {
+    match packet {
+        Packet::Inv(items) | Packet::GetData(items) | Packet::NotFound(items) => items,
+        _ => &[],
+    }
+}
+
 /// A hash that an item at a place has, or one beside it: whether it is found, and that it stands there.
 pub fn find(case: &Case) -> Verdict {
     let kind = packet_type(case);
     if CARRIED.contains(&kind) {
         return Verdict::LeftOut;
     }
-    let packet = decode(case);
-    let items: &[Inventory] = match &packet {
-        Ok(Packet::Inv(items) | Packet::GetData(items) | Packet::NotFound(items)) => items,
-        _ => &[],
-    };
+    let packet = decode(kind, &case.bytes);
+    let items = packet.as_ref().map_or(&[][..], inventories);
     let mut hash = items
         .get(case.number(1) as usize)
         .map_or([7; 32], |item| item.hash);
@@ -312,15 +322,10 @@ pub fn rewrite(case: &Case) -> Verdict {
     let mut out = filled(room);
     let mut expected = out.clone();
     let port = hns_port::rewrite(kind, &case.bytes, &mut out);
-    let rust = again(kind, &case.bytes)
-        .map_err(packet_error)
-        .and_then(|bytes| {
-            if room < bytes.len() {
-                return Err(rust::refusal(16, bytes.len() as u64, 0));
-            }
-            splice(&mut expected, 0, &bytes);
-            Ok(bytes.len())
-        });
+    let rust = again(kind, &case.bytes, room).map(|bytes| {
+        splice(&mut expected, 0, &bytes);
+        bytes.len()
+    });
     let answers = Verdict::of(&port, &rust);
     if answers.differs() || out == expected {
         return answers;
@@ -328,6 +333,10 @@ pub fn rewrite(case: &Case) -> Verdict {
     Verdict::of(&out, &expected)
 }
 
-fn again(kind: u8, payload: &[u8]) -> Result<Vec<u8>, WireError> {
-    Packet::decode(PacketType::from_u8(kind), payload)?.encode_payload()
+/// What a payload is written as again, where there is room for it.
+pub fn again(kind: u8, payload: &[u8], room: usize) -> Result<Vec<u8>, Refusal> {
+    let bytes = decode(kind, payload)?
+        .encode_payload()
+        .map_err(packet_error)?;
+    rust::fits(bytes, room)
 }

@@ -11,6 +11,7 @@ use hns_primitives::{BlockHash, NameHash, TreeRoot};
 
 use crate::buffer::{filled, splice};
 use crate::case::{Case, Verdict};
+use crate::packets;
 use crate::rng::Rng;
 use crate::rust;
 
@@ -24,14 +25,12 @@ pub fn check(case: &Case) -> Verdict {
     let mut expected = out.clone();
     let port = write(&packet, &mut out);
     let rust = rust
-        .map_err(|error| refused(&packet, &error))
-        .and_then(|bytes| {
-            if room < bytes.len() {
-                return Err(rust::refusal(16, bytes.len() as u64, 0));
-            }
-            splice(&mut expected, 0, &bytes);
-            Ok(bytes.len())
-        });
+        .map_err(|error| refused(&packet, error))
+        .and_then(|bytes| rust::fits(bytes, room));
+    let rust = rust.map(|bytes| {
+        splice(&mut expected, 0, &bytes);
+        bytes.len()
+    });
     let answers = Verdict::of(&port, &rust);
     if answers.differs() || out == expected {
         return answers;
@@ -184,10 +183,7 @@ fn write(packet: &Packet, out: &mut [u8]) -> Result<usize, Refusal> {
             hns_port::write_addr(&items.iter().flat_map(flat).collect::<Vec<_>>(), out)
         }
         Packet::Inv(items) => {
-            let flat: Vec<u8> = items
-                .iter()
-                .flat_map(|item| [&item.kind.as_u32().to_le_bytes()[..], &item.hash].concat())
-                .collect();
+            let flat: Vec<u8> = items.iter().flat_map(packets::inventory).collect();
             hns_port::write_inventory(&flat, out)
         }
         Packet::GetBlocks(packet) => {
@@ -224,7 +220,8 @@ fn write(packet: &Packet, out: &mut [u8]) -> Result<usize, Refusal> {
     }
 }
 
-fn flat(address: &NetAddress) -> Vec<u8> {
+/// An address as an item of a flat list.
+pub fn flat(address: &NetAddress) -> Vec<u8> {
     let mut bytes = address.time.to_le_bytes().to_vec();
     bytes.extend(address.services.to_le_bytes());
     bytes.extend(address.ip);
@@ -269,7 +266,7 @@ fn field(context: &str) -> u64 {
 }
 
 /// The Rust says which index list is refused by a text, and not where: the place is looked for here.
-fn refused(packet: &Packet, error: &WireError) -> Refusal {
+pub fn refused(packet: &Packet, error: WireError) -> Refusal {
     match error {
         WireError::CountTooLarge {
             context,
@@ -277,7 +274,7 @@ fn refused(packet: &Packet, error: &WireError) -> Refusal {
             maximum,
         } => Refusal {
             c: field(context),
-            ..rust::refusal(7, *actual as u64, *maximum as u64)
+            ..rust::refusal(7, actual as u64, maximum as u64)
         },
         WireError::InvalidPacket {
             context: "reject packet",
@@ -287,8 +284,8 @@ fn refused(packet: &Packet, error: &WireError) -> Refusal {
             c: field(context),
             ..rust::refusal(10, 0, 0)
         },
-        WireError::CompactBlock(CompactBlockError::Malformed(text)) => list_refused(packet, text),
-        other => panic!("no refusal for {other:?}"),
+        WireError::CompactBlock(CompactBlockError::Malformed(text)) => list_refused(packet, &text),
+        other => rust::wire_error(other),
     }
 }
 
