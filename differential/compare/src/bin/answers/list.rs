@@ -2,6 +2,7 @@
 
 use std::fmt::Write;
 use std::io;
+use std::ops::Range;
 use std::path::Path;
 
 use hns_port::Refusal;
@@ -9,9 +10,12 @@ use hns_port::Refusal;
 const PATTERN: u8 = 0xaa;
 
 #[derive(Default)]
-pub struct List {
-    cases: String,
-    answers: String,
+pub struct List(Vec<Line>);
+
+struct Line {
+    kind: u8,
+    case: String,
+    answer: String,
 }
 
 impl List {
@@ -20,16 +24,26 @@ impl List {
     pub fn add(&mut self, kind: u8, second: u8, numbers: [u64; 3], bytes: &[u8], answer: &str) {
         let numbers = numbers.map(u64::to_le_bytes).concat();
         let case = [&[kind, second], &numbers[..], bytes].concat();
-        let _ = writeln!(self.cases, "{}", hex(&case));
-        let _ = writeln!(self.answers, "{kind} {answer}");
+        self.0.push(Line {
+            kind,
+            case: format!("{}\n", hex(&case)),
+            answer: format!("{kind} {answer}\n"),
+        });
     }
 
-    /// Writes the folder's stdin, the cases, and its stdout, the answers; says how many there are.
-    pub fn save(&self, folder: &Path) -> io::Result<usize> {
+    /// Writes the folder's stdin, the cases of some kinds, and its stdout, the answers; says how many.
+    pub fn save(&self, kinds: Range<u8>, folder: &Path) -> io::Result<usize> {
+        let lines: Vec<&Line> = self
+            .0
+            .iter()
+            .filter(|line| kinds.contains(&line.kind))
+            .collect();
+        let cases: String = lines.iter().map(|line| line.case.as_str()).collect();
+        let answers: String = lines.iter().map(|line| line.answer.as_str()).collect();
         std::fs::create_dir_all(folder)?;
-        std::fs::write(folder.join("stdin"), &self.cases)?;
-        std::fs::write(folder.join("stdout"), &self.answers)?;
-        Ok(self.answers.lines().count())
+        std::fs::write(folder.join("stdin"), cases)?;
+        std::fs::write(folder.join("stdout"), answers)?;
+        Ok(lines.len())
     }
 }
 

@@ -12,14 +12,14 @@ use hns_port::Refusal;
 use crate::list::{List, hex, spliced};
 use crate::payloads;
 
-const PACKET: u8 = 24;
+pub const PACKET: u8 = 24;
 const ITEM: u8 = 25;
 const INDEXES: u8 = 26;
 const FIND: u8 = 27;
-const REWRITE: u8 = 28;
+pub const REWRITE: u8 = 28;
 
 /// So many numbers are lent for indexes, each with this value.
-const PLACES: usize = 8;
+const PLACES: usize = 5;
 const UNSET: u64 = 170;
 /// So many bytes are shown.
 const SHOWN: usize = 800;

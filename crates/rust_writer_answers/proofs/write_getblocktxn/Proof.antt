@@ -2,8 +2,8 @@ use mathlib.Core.Path.{sym}
 use native.Mathlib.Omega.{arith}
 use lib.Seq.{length-take-le}
 use borrow.Author.Needs.{needs}
-use Rattle.rust_packet_answers.proofs.write_getblocktxn.Statement.{statement}
-use Rattle.rust_packet_answers.proofs.write_getblocktxn.Tie as tie
+use Rattle.rust_writer_answers.proofs.write_getblocktxn.Statement.{statement}
+use Rattle.rust_writer_answers.proofs.write_getblocktxn.Tie as tie
 
 slice-aggregate-read-compact-sizes : tie.Need-slice-aggregate-read-compact-sizes
 slice-aggregate-read-compact-sizes c = search needs

@@ -1,8 +1,8 @@
 use native.Mathlib.Omega.{arith}
 use Rattle.hns_p2p_blocks.proofs.Signed.{signed-fits}
 use borrow.Author.Needs.{needs}
-use Rattle.rust_packet_answers.proofs.signed.Statement.{statement}
-use Rattle.rust_packet_answers.proofs.signed.Tie as tie
+use Rattle.rust_writer_answers.proofs.signed.Statement.{statement}
+use Rattle.rust_writer_answers.proofs.signed.Tie as tie
 
 cast-result : tie.Need-cast-result
 cast-result c = search needs
