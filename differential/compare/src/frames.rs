@@ -1,7 +1,7 @@
 //! One frame: at the front of a slice, alone, and written.
 
 use hns_p2p_wire::{Frame, PacketType};
-use hns_port::{Refusal, ffi};
+use hns_port::ffi;
 
 use crate::buffer::{filled, splice};
 use crate::case::{Case, NETWORKS, Verdict};
@@ -43,7 +43,7 @@ pub fn encode(case: &Case) -> Verdict {
     let rust = frame
         .encode(rust::NETWORKS[case.network])
         .map_err(rust::wire_error)
-        .and_then(|bytes| fits(bytes, room));
+        .and_then(|bytes| rust::fits(bytes, room));
     let rust = rust.map(|bytes| {
         splice(&mut expected, 0, &bytes);
         bytes.len()
@@ -53,14 +53,6 @@ pub fn encode(case: &Case) -> Verdict {
         return answers;
     }
     Verdict::of(&out, &expected)
-}
-
-/// The Rust grows a vector; an output that is too short is the port's own refusal, 16.
-fn fits(bytes: Vec<u8>, room: usize) -> Result<Vec<u8>, Refusal> {
-    if bytes.len() <= room {
-        return Ok(bytes);
-    }
-    Err(rust::refusal(16, bytes.len() as u64, 0))
 }
 
 /// A row in fewer than six numbers is the front of the whole row, and no other number changes.

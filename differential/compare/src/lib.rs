@@ -10,14 +10,14 @@ pub mod generate;
 mod headers;
 pub mod limits;
 mod owned;
-mod packets;
+pub mod packets;
 mod puts;
 mod reads;
 pub mod rng;
 pub mod rust;
 pub mod shrink;
 mod stream;
-mod writes;
+pub mod writes;
 
 use case::{Case, Kind, Verdict};
 

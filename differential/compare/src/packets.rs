@@ -13,7 +13,7 @@ use crate::rust;
 pub const CARRIED: [u8; 5] = [13, 14, 23, 25, 27];
 
 /// What a packet holds: numbers, and bytes that stand in the payload or were put out as text.
-type Seen = (Vec<u64>, Vec<Vec<u8>>);
+pub type Seen = (Vec<u64>, Vec<Vec<u8>>);
 
 fn packet_type(case: &Case) -> u8 {
     case.number(0) as u8
@@ -48,8 +48,8 @@ pub fn packet_error(error: WireError) -> Refusal {
     }
 }
 
-fn decode(case: &Case) -> Result<Packet, Refusal> {
-    Packet::decode(PacketType::from_u8(packet_type(case)), &case.bytes).map_err(packet_error)
+pub fn decode(kind: u8, payload: &[u8]) -> Result<Packet, Refusal> {
+    Packet::decode(PacketType::from_u8(kind), payload).map_err(packet_error)
 }
 
 /// The packet, and the output for its text with the bytes that are left alone.
@@ -60,15 +60,17 @@ pub fn read(case: &Case) -> Verdict {
     }
     let mut text = filled(case.number(1) as usize);
     let mut expected = text.clone();
-    let port = hns_port::read_packet(kind, &case.bytes, &mut text)
-        .map(|row| port_seen(kind, &case.bytes, &row, &text));
-    let rust = decode(case).and_then(|packet| {
-        let put = words(&packet);
-        if expected.len() < put.len() {
-            return Err(rust::refusal(16, put.len() as u64, 0));
-        }
-        splice(&mut expected, 0, put.as_bytes());
-        Ok(rust_seen(&packet))
+    let port = hns_port::read_packet(kind, &case.bytes, &mut text).map(|row| {
+        let indexes = match kind {
+            24 => port_indexes(&case.bytes, row[1] as usize),
+            _ => vec![],
+        };
+        (port_seen(kind, &case.bytes, &row), indexes)
+    });
+    let rust = decode(kind, &case.bytes).and_then(|packet| {
+        let put = rust::fits(words(&packet).into(), expected.len())?;
+        splice(&mut expected, 0, &put);
+        Ok((rust_seen(&packet), indexes(&packet)))
     });
     let answers = Verdict::of(&port, &rust);
     if answers.differs() || text == expected {
@@ -77,7 +79,8 @@ pub fn read(case: &Case) -> Verdict {
     Verdict::of(&text, &expected)
 }
 
-fn words(packet: &Packet) -> &str {
+/// The text that a packet puts out.
+pub fn words(packet: &Packet) -> &str {
     match packet {
         Packet::Version(version) => &version.agent,
         Packet::Reject(reject) => &reject.reason,
@@ -85,34 +88,17 @@ fn words(packet: &Packet) -> &str {
     }
 }
 
-fn port_seen(kind: u8, payload: &[u8], row: &PacketRow, text: &[u8]) -> Seen {
+fn port_seen(kind: u8, payload: &[u8], row: &PacketRow) -> Seen {
     let place = |i: usize| row[i] as usize;
     let bytes = |i: usize, n: usize| payload[place(i)..][..n].to_vec();
     match kind {
         0 => {
             let numbers = [&row[1..9], &[row[10], row[13], row[14]]].concat();
-            (
-                numbers,
-                vec![
-                    bytes(9, 33),
-                    masked(&bytes(11, place(12))),
-                    text[..place(12)].to_vec(),
-                ],
-            )
+            (numbers, vec![bytes(9, 33), masked(&bytes(11, place(12)))])
         }
         2 | 3 | 21 => (vec![row[1]], vec![]),
-        5 => {
-            let (mut numbers, keys) = port_numbers(kind, payload, place(1), 6, 33);
-            numbers.extend([row[1], row[2]]);
-            (numbers, keys)
-        }
-        6..=8 => {
-            let (mut numbers, mut hashes) = port_numbers(kind, payload, place(1), 2, 32);
-            numbers.push(row[1]);
-            hashes.push(payload[place(2)..].to_vec());
-            (numbers, hashes)
-        }
-        11 => (vec![row[1]], vec![payload[place(2)..].to_vec()]),
+        5 => (vec![row[1], row[2]], vec![]),
+        6..=8 | 11 => (vec![row[1]], vec![payload[place(2)..].to_vec()]),
         9 | 10 => (
             vec![row[1]],
             vec![payload[place(2)..place(3)].to_vec(), bytes(3, 32)],
@@ -120,13 +106,10 @@ fn port_seen(kind: u8, payload: &[u8], row: &PacketRow, text: &[u8]) -> Seen {
         15 => {
             let hash = if row[5] == 1 { bytes(6, 32) } else { vec![] };
             let reason = masked(&bytes(3, place(4)));
-            (
-                vec![row[1], row[2], row[5]],
-                vec![reason, text[..place(4)].to_vec(), hash],
-            )
+            (vec![row[1], row[2], row[5]], vec![reason, hash])
         }
         22 => (row[1..3].to_vec(), vec![]),
-        24 => (port_indexes(payload, place(1)), vec![bytes(3, 32)]),
+        24 => (row[1..3].to_vec(), vec![bytes(3, 32)]),
         26 => (vec![], vec![bytes(1, 32), bytes(2, 32)]),
         1 | 4 | 12 | 16 | 19 => (vec![], vec![]),
         _ => (vec![], vec![bytes(1, place(2))]),
@@ -137,20 +120,6 @@ fn masked(bytes: &[u8]) -> Vec<u8> {
     bytes.iter().map(|byte| byte & 127).collect()
 }
 
-/// Numbers of all items by one call into room for them and one more: so many for each item, the last
-/// of which is a place of so many bytes.
-fn port_numbers(kind: u8, payload: &[u8], count: usize, each: usize, width: usize) -> Seen {
-    let mut out = vec![u64::MAX; count * each + 1];
-    let stored = hns_port::item_numbers(kind, payload, &mut out);
-    assert_eq!((stored, out.pop()), (Ok(count * each), Some(u64::MAX)));
-    let items = out.chunks(each);
-    let bytes = items.map(|item| payload[item[each - 1] as usize..][..width].to_vec());
-    let bytes = bytes.collect();
-    let last = |i: &usize| i % each == each - 1;
-    let numbers = (0..out.len()).filter(|i| !last(i)).map(|i| out[i]);
-    (numbers.collect(), bytes)
-}
-
 /// All indexes, stored by one call into room for them and one more.
 fn port_indexes(payload: &[u8], count: usize) -> Vec<u64> {
     let mut out = vec![u64::MAX; count + 1];
@@ -159,27 +128,26 @@ fn port_indexes(payload: &[u8], count: usize) -> Vec<u64> {
     out
 }
 
-fn rust_seen(packet: &Packet) -> Seen {
+/// The indexes of a getblocktxn; no other packet has any.
+pub fn indexes(packet: &Packet) -> Vec<u64> {
+    match packet {
+        Packet::GetBlockTxn(request) => request.indexes.iter().map(|i| *i as u64).collect(),
+        _ => vec![],
+    }
+}
+
+pub fn rust_seen(packet: &Packet) -> Seen {
     match packet {
         Packet::Version(version) => version_seen(version),
         Packet::Ping(nonce) | Packet::Pong(nonce) => (vec![u64::from_le_bytes(*nonce)], vec![]),
-        Packet::Addr(items) => {
-            let mut numbers: Vec<u64> = items.iter().flat_map(address_numbers).collect();
-            numbers.extend([items.len() as u64, compact_length(items.len())]);
-            (
-                numbers,
-                items.iter().map(|item| item.key.to_vec()).collect(),
-            )
-        }
-        Packet::Inv(items) | Packet::GetData(items) | Packet::NotFound(items) => {
-            let kinds = items.iter().map(|item| u64::from(item.kind.as_u32()));
-            let hashes = items.iter().map(|item| item.hash.to_vec());
-            let all = items.iter().flat_map(inventory).collect();
-            (
-                kinds.chain([items.len() as u64]).collect(),
-                hashes.chain([all]).collect(),
-            )
-        }
+        Packet::Addr(items) => (
+            vec![items.len() as u64, compact_length(items.len())],
+            vec![],
+        ),
+        Packet::Inv(items) | Packet::GetData(items) | Packet::NotFound(items) => (
+            vec![items.len() as u64],
+            vec![items.iter().flat_map(inventory).collect()],
+        ),
         Packet::GetBlocks(packet) | Packet::GetHeaders(packet) => {
             let hashes = packet
                 .locator
@@ -199,8 +167,11 @@ fn rust_seen(packet: &Packet) -> Seen {
         Packet::FeeFilter(rate) => (vec![*rate as u64], vec![]),
         Packet::SendCmpct { mode, version } => (vec![u64::from(*mode), *version], vec![]),
         Packet::GetBlockTxn(request) => {
-            let indexes = request.indexes.iter().map(|index| *index as u64).collect();
-            (indexes, vec![request.block_hash.as_bytes().to_vec()])
+            let count = request.indexes.len();
+            (
+                vec![count as u64, 32 + compact_length(count)],
+                vec![request.block_hash.as_bytes().to_vec()],
+            )
         }
         Packet::GetProof(proof) => (
             vec![],
@@ -245,10 +216,7 @@ fn version_seen(version: &VersionPacket) -> Seen {
         u64::from(version.no_relay),
     ]);
     let agent = version.agent.as_bytes().to_vec();
-    (
-        numbers,
-        vec![version.remote.key.to_vec(), agent.clone(), agent],
-    )
+    (numbers, vec![version.remote.key.to_vec(), agent])
 }
 
 fn reject_seen(reject: &RejectPacket) -> Seen {
@@ -260,7 +228,7 @@ fn reject_seen(reject: &RejectPacket) -> Seen {
         u64::from(reject.code),
         present,
     ];
-    (numbers, vec![reason.clone(), reason, hash])
+    (numbers, vec![reason, hash])
 }
 
 pub fn inventory(item: &Inventory) -> Vec<u8> {
@@ -275,9 +243,47 @@ pub fn item(case: &Case) -> Verdict {
     }
     let port =
         hns_port::item(kind, &case.bytes, place).map(|row| port_item(kind, &case.bytes, &row));
-    let rust = decode(case)
-        .and_then(|packet| rust_item(&packet, place).ok_or_else(|| rust::refusal(19, 0, 0)));
-    Verdict::of(&port, &rust)
+    let packet = decode(kind, &case.bytes);
+    let packet = packet.as_ref().map_err(|refusal| *refusal);
+    let rust = packet.and_then(|packet| rust_item(packet, place));
+    let answers = Verdict::of(&port, &rust);
+    if answers.differs() {
+        return answers;
+    }
+    let items = packet.map(|packet| numbered(kind, packet));
+    all_items(kind, &case.bytes, items, case.number(2) == 1)
+}
+
+/// The items that have numbers.
+fn numbered(kind: u8, packet: &Packet) -> Vec<Seen> {
+    let items = (0..).map_while(|place| listed(packet, place));
+    items.take_while(|_| matches!(kind, 5..=8)).collect()
+}
+
+/// The numbers of all items by one call, into room for them and one more, or one short of them: of each
+/// item so many, the last of which is a place of so many bytes.
+fn all_items(kind: u8, payload: &[u8], items: Result<Vec<Seen>, Refusal>, short: bool) -> Verdict {
+    let (each, width) = if kind == 5 { (6, 33) } else { (2, 32) };
+    let needed = items.as_ref().map_or(0, |items| items.len() * each);
+    let room = if short {
+        needed.saturating_sub(1)
+    } else {
+        needed + 1
+    };
+    let mut out = vec![u64::MAX; room];
+    let answer = hns_port::item_numbers(kind, payload, &mut out);
+    let rest = out.split_off(answer.map_or(0, |count| count.min(room)));
+    let seen = |item: &[u64]| {
+        let bytes = payload[item[each - 1] as usize..][..width].to_vec();
+        (item[..each - 1].to_vec(), vec![bytes])
+    };
+    let port = answer.map(|_| out.chunks(each).map(seen).collect());
+    let rust = items.and_then(|items| match room < needed {
+        true => Err(rust::refusal(16, needed as u64, 0)),
+        false => Ok(items),
+    });
+    let left_alone = rest.iter().all(|number| *number == u64::MAX);
+    Verdict::of(&(port, left_alone), &(rust, true))
 }
 
 fn port_item(kind: u8, payload: &[u8], row: &PacketRow) -> Seen {
@@ -291,7 +297,12 @@ fn port_item(kind: u8, payload: &[u8], row: &PacketRow) -> Seen {
     }
 }
 
-fn rust_item(packet: &Packet, place: usize) -> Option<Seen> {
+/// The item at a place; 19 is the port's own refusal.
+pub fn rust_item(packet: &Packet, place: usize) -> Result<Seen, Refusal> {
+    listed(packet, place).ok_or_else(|| rust::refusal(19, 0, 0))
+}
+
+fn listed(packet: &Packet, place: usize) -> Option<Seen> {
     Some(match packet {
         Packet::Addr(items) => {
             let address = items.get(place)?;
@@ -313,17 +324,22 @@ fn rust_item(packet: &Packet, place: usize) -> Option<Seen> {
     })
 }
 
+/// The items that a hash is looked for among.
+pub fn inventories(packet: &Packet) -> &[Inventory] {
+    match packet {
+        Packet::Inv(items) | Packet::GetData(items) | Packet::NotFound(items) => items,
+        _ => &[],
+    }
+}
+
 /// A hash that an item at a place has, or one beside it: whether it is found, and that it stands there.
 pub fn find(case: &Case) -> Verdict {
     let kind = packet_type(case);
     if CARRIED.contains(&kind) {
         return Verdict::LeftOut;
     }
-    let packet = decode(case);
-    let items: &[Inventory] = match &packet {
-        Ok(Packet::Inv(items) | Packet::GetData(items) | Packet::NotFound(items)) => items,
-        _ => &[],
-    };
+    let packet = decode(kind, &case.bytes);
+    let items = packet.as_ref().map_or(&[][..], inventories);
     let mut hash = items
         .get(case.number(1) as usize)
         .map_or([7; 32], |item| item.hash);
@@ -345,15 +361,10 @@ pub fn rewrite(case: &Case) -> Verdict {
     let mut out = filled(room);
     let mut expected = out.clone();
     let port = hns_port::rewrite(kind, &case.bytes, &mut out);
-    let rust = again(kind, &case.bytes)
-        .map_err(packet_error)
-        .and_then(|bytes| {
-            if room < bytes.len() {
-                return Err(rust::refusal(16, bytes.len() as u64, 0));
-            }
-            splice(&mut expected, 0, &bytes);
-            Ok(bytes.len())
-        });
+    let rust = again(kind, &case.bytes, room).map(|bytes| {
+        splice(&mut expected, 0, &bytes);
+        bytes.len()
+    });
     let answers = Verdict::of(&port, &rust);
     if answers.differs() || out == expected {
         return answers;
@@ -361,6 +372,10 @@ pub fn rewrite(case: &Case) -> Verdict {
     Verdict::of(&out, &expected)
 }
 
-fn again(kind: u8, payload: &[u8]) -> Result<Vec<u8>, WireError> {
-    Packet::decode(PacketType::from_u8(kind), payload)?.encode_payload()
+/// What a payload is written as again, where there is room for it.
+pub fn again(kind: u8, payload: &[u8], room: usize) -> Result<Vec<u8>, Refusal> {
+    let bytes = decode(kind, payload)?
+        .encode_payload()
+        .map_err(packet_error)?;
+    rust::fits(bytes, room)
 }

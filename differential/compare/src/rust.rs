@@ -22,6 +22,14 @@ pub fn refusal(number: u64, a: u64, b: u64) -> Refusal {
     Refusal { number, a, b, c: 0 }
 }
 
+/// The Rust grows a vector; an output that is too short is the port's own refusal, 16.
+pub fn fits(bytes: Vec<u8>, room: usize) -> Result<Vec<u8>, Refusal> {
+    if bytes.len() <= room {
+        return Ok(bytes);
+    }
+    Err(refusal(16, bytes.len() as u64, 0))
+}
+
 pub fn decode_error(error: DecodeError) -> Refusal {
     match error {
         DecodeError::UnexpectedEnd { offset, needed } => refusal(1, offset as u64, needed as u64),

@@ -28,13 +28,11 @@ pub fn check(case: &Case) -> Verdict {
     let port = write(&packet, &mut out);
     let rust = rust
         .map_err(|error| refused(&packet, error))
-        .and_then(|bytes| {
-            if room < bytes.len() {
-                return Err(rust::refusal(16, bytes.len() as u64, 0));
-            }
-            splice(&mut expected, 0, &bytes);
-            Ok(bytes.len())
-        });
+        .and_then(|bytes| rust::fits(bytes, room));
+    let rust = rust.map(|bytes| {
+        splice(&mut expected, 0, &bytes);
+        bytes.len()
+    });
     let answers = Verdict::of(&port, &rust);
     if answers.differs() || out == expected {
         return answers;
@@ -257,7 +255,8 @@ fn joined<T, B: IntoIterator<Item = u8>>(items: &[T], bytes: impl Fn(&T) -> B) -
     items.iter().flat_map(bytes).collect()
 }
 
-fn flat(address: &NetAddress) -> Vec<u8> {
+/// An address as an item of a flat list.
+pub fn flat(address: &NetAddress) -> Vec<u8> {
     let mut bytes = address.time.to_le_bytes().to_vec();
     bytes.extend(address.services.to_le_bytes());
     bytes.extend(address.ip);

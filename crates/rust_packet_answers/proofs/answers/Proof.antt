@@ -1,0 +1,55 @@
+use Prim.Native.Nat.{_≤_, _-_}
+use mathlib.Core.Path.{_≡_}
+use lib.ListN.{length}
+use borrow.Author.Needs.{needs}
+use Rattle.rust_packet_answers.proofs.answers.Statement.{statement}
+use Rattle.rust_packet_answers.proofs.answers.Tie as tie
+
+abbrev Inv-loop : tie.InvT-loop
+Inv-loop lines case₀ n long₀ digits₀ i₀ case long digits i = (i ≤ length lines) × ((length case ≡ length case₀) × (length long ≡ length long₀))
+
+abbrev μ-loop : tie.MeasureT-loop
+μ-loop lines case₀ n long₀ digits₀ i₀ case long digits i = length lines - i
+
+loop-holds : tie.Need-loop-holds Inv-loop μ-loop
+loop-holds c = search needs
+
+shared-slice-read-take : tie.Need-shared-slice-read-take Inv-loop μ-loop
+shared-slice-read-take c = search needs
+
+take-requires : tie.Need-take-requires Inv-loop μ-loop
+take-requires c κs = search needs
+
+add-i : tie.Need-add-i Inv-loop μ-loop
+add-i c = search needs
+
+loop-less : tie.Need-loop-less Inv-loop μ-loop
+loop-less c = search needs
+
+loop-again : tie.Need-loop-again Inv-loop μ-loop
+loop-again c = search needs
+
+same-length : tie.Need-same-length Inv-loop μ-loop
+same-length c = search needs
+
+same-length-2 : tie.Need-same-length-2 Inv-loop μ-loop
+same-length-2 c = search needs
+
+returns : tie.Need-returns Inv-loop μ-loop
+returns c = search needs
+
+pub answers-spec : {M : Type 1} → statement M
+answers-spec =
+    tie.close
+    (tie.spec
+    Inv-loop
+    μ-loop
+    loop-holds
+    shared-slice-read-take
+    take-requires
+    add-i
+    loop-less
+    loop-again
+    same-length
+    same-length-2
+    returns)

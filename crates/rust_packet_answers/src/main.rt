@@ -1,0 +1,308 @@
+// The published Rust's answers about packets that are read, asked of the port: a line of standard input is a case in
+// hexadecimal, and the file stdout has what the Rust answered. differential/answers makes both.
+//
+// A case is its kind, a packet type, three numbers of eight bytes, and its bytes. The first number is the length of the
+// lent output, or the place of an item. The others say which zeros the bytes leave out: after how many bytes they stand,
+// and how many there are. So a short line has a payload of megabytes.
+//
+// An answer is the kind, and 0 with what was answered, or the refusal's number and values; then the lent output. For a
+// place it has the bytes that stand there: the Rust has no places.
+use hns_encoder::Encoder;
+
+const FRONT: usize = 26;
+
+// Bytes of a line.
+const ROOM: usize = 4_096;
+
+// Bytes of a case: a hash, and a payload one byte over the limit. The stack of 8 MB has room for one of these.
+const LONG_ROOM: usize = 8_000_033;
+
+// Bytes of a lent output.
+const OUT_ROOM: usize = 1_024;
+
+fn after(bytes: &[u8], n: usize) -> &[u8] {
+    hns_p2p_fields::from_place(bytes, n)
+}
+
+// So many bytes at a place.
+fn there(bytes: &[u8], at: u64, n: u64) -> &[u8] {
+    hns_encoding::first(after(bytes, at as usize), n as usize)
+}
+
+fn mask(bytes: &mut [u8]) {
+    let mut i = 0;
+    while i < bytes.len() {
+        bytes[i] = bytes[i] % 128;
+        i += 1;
+    }
+}
+
+// A text, each byte without its top bit.
+fn masked(bytes: &[u8]) {
+    let mut shown = [0u8; 255];
+    Encoder::new().put_bytes(&mut shown, bytes);
+    mask(&mut shown);
+    case_lines::hex(hns_encoding::first(&shown, bytes.len()));
+}
+
+fn two(row: [u64; 16]) {
+    case_lines::number(row[1]);
+    case_lines::number(row[2]);
+}
+
+fn version(payload: &[u8], row: [u64; 16]) {
+    case_lines::five(row[1], row[2], row[3], row[4], row[5]);
+    case_lines::five(row[6], row[7], row[8], row[10], row[13]);
+    case_lines::number(row[14]);
+    case_lines::part(payload, row[9], 33);
+    masked(there(payload, row[11], row[12]));
+}
+
+fn listed(payload: &[u8], row: [u64; 16]) {
+    case_lines::number(row[1]);
+    case_lines::hex(after(payload, row[2] as usize));
+}
+
+fn locator(payload: &[u8], row: [u64; 16]) {
+    case_lines::number(row[1]);
+    case_lines::hex(after(
+        hns_encoding::first(payload, row[3] as usize),
+        row[2] as usize,
+    ));
+    case_lines::part(payload, row[3], 32);
+}
+
+fn reject(payload: &[u8], row: [u64; 16]) {
+    two(row);
+    case_lines::number(row[5]);
+    masked(there(payload, row[3], row[4]));
+    case_lines::part(payload, row[6], row[5] % 2 * 32);
+}
+
+fn getblocktxn(payload: &[u8], row: [u64; 16]) {
+    two(row);
+    case_lines::part(payload, row[3], 32);
+}
+
+fn getproof(payload: &[u8], row: [u64; 16]) {
+    case_lines::part(payload, row[1], 32);
+    case_lines::part(payload, row[2], 32);
+}
+
+// One type for all that are alike.
+fn form(packet_type: u8) -> u8 {
+    match packet_type {
+        4 | 12 | 16 | 19 => 1,
+        3 => 2,
+        7 | 8 => 6,
+        10 => 9,
+        _ => packet_type,
+    }
+}
+
+fn show_packet(packet_type: u8, payload: &[u8], row: [u64; 16]) {
+    match form(packet_type) {
+        0 => version(payload, row),
+        1 => {}
+        2 => case_lines::number(row[1]),
+        5 => two(row),
+        6 => listed(payload, row),
+        9 => locator(payload, row),
+        11 => listed(payload, row),
+        15 => reject(payload, row),
+        21 => case_lines::number(row[1]),
+        22 => two(row),
+        24 => getblocktxn(payload, row),
+        26 => getproof(payload, row),
+        _ => case_lines::part(payload, row[1], row[2]),
+    }
+}
+
+fn ask_packet(packet_type: u8, payload: &[u8], out: &mut [u8]) {
+    let mut row = [0u64; 16];
+    hns_ffi_packets::hns_read_packet(packet_type, payload, out, &mut row);
+    if row[0] == 0 {
+        case_lines::number(0);
+        show_packet(packet_type, payload, row);
+    } else {
+        case_lines::refusal(row);
+    }
+}
+
+fn address(payload: &[u8], row: [u64; 16]) {
+    case_lines::five(row[1], row[2], row[3], row[4], row[5]);
+    case_lines::part(payload, row[6], 33);
+}
+
+fn inventory(payload: &[u8], row: [u64; 16]) {
+    case_lines::number(row[1]);
+    case_lines::part(payload, row[2], 32);
+}
+
+fn show_item(packet_type: u8, payload: &[u8], row: [u64; 16]) {
+    match form(packet_type) {
+        5 => address(payload, row),
+        6 => inventory(payload, row),
+        9 => case_lines::part(payload, row[1], 32),
+        11 => case_lines::part(payload, row[1], 236),
+        _ => case_lines::number(row[1]),
+    }
+}
+
+fn ask_item(packet_type: u8, payload: &[u8], place: usize) {
+    let mut row = [0u64; 16];
+    hns_ffi_packets::hns_item(packet_type, payload, place, &mut row);
+    if row[0] == 0 {
+        case_lines::number(0);
+        show_item(packet_type, payload, row);
+    } else {
+        case_lines::refusal(row);
+    }
+}
+
+// All indexes, and the numbers that were lent for them.
+fn ask_indexes(payload: &[u8]) {
+    let mut row = [0u64; 16];
+    let mut out = [170u64; 5];
+    hns_ffi_packets::hns_indexes(payload, &mut out, &mut row);
+    case_lines::count(row);
+    case_lines::five(out[0], out[1], out[2], out[3], out[4]);
+}
+
+// What stands at the place that the finder answers: document 01 leaves open which place it is.
+fn show_found(packet_type: u8, payload: &[u8], place: u64) {
+    let mut row = [0u64; 16];
+    hns_ffi_packets::hns_item(packet_type, payload, place as usize, &mut row);
+    case_lines::part(payload, row[2], 32);
+}
+
+fn ask_find(packet_type: u8, payload: &[u8], hash: &[u8]) {
+    let mut row = [0u64; 16];
+    hns_ffi_packets::hns_find(packet_type, payload, hash, &mut row);
+    case_lines::count(row);
+    if (row[0] == 0) & (row[1] == 1) {
+        show_found(packet_type, payload, row[2]);
+    }
+}
+
+// The output that is lent for a text is shown after the packet.
+fn ask_lent(packet_type: u8, payload: &[u8], out: &mut [u8]) {
+    ask_packet(packet_type, payload, out);
+    case_lines::hex(out);
+}
+
+fn lend(packet_type: u8, room: usize, payload: &[u8]) {
+    let mut out = [0xaau8; OUT_ROOM];
+    if room <= OUT_ROOM {
+        ask_lent(packet_type, payload, &mut out[..room]);
+    }
+}
+
+fn ask(kind: u8, packet_type: u8, n: usize, bytes: &[u8]) {
+    match kind {
+        24 => lend(packet_type, n, bytes),
+        25 => ask_item(packet_type, bytes, n),
+        26 => ask_indexes(bytes),
+        _ => ask_find(packet_type, after(bytes, 32), bytes),
+    }
+}
+
+fn clear(bytes: &mut [u8], from: usize, to: usize) {
+    let mut i = from;
+    while i < to {
+        if bytes.len() <= i {
+            return;
+        }
+        bytes[i] = 0;
+        i += 1;
+    }
+}
+
+// Puts the bytes that a line gives where they stand around the zeros, and answers the place after them.
+fn put_given(case: &[u8], before: usize, end: usize, long: &mut [u8]) -> usize {
+    let given = after(case, FRONT);
+    Encoder::new().put_bytes(long, hns_encoding::first(given, before));
+    let e = Encoder { position: end }.put_bytes(long, after(given, before));
+    e.position
+}
+
+fn ask_case(case: &[u8], bytes: &[u8]) {
+    let kind = hns_encoding::u8_at(case, 0);
+    let packet_type = hns_encoding::u8_at(case, 1);
+    let n = hns_encoding::u64_at(case, 2) as usize;
+    io::print_decimal(1, kind as u64);
+    ask(kind, packet_type, n, bytes);
+    case_lines::text(b"\n");
+}
+
+// `long` is zeros: the bytes given are put there for the question, and cleared again, so that no case has to write
+// megabytes.
+fn ask_long(case: &[u8], before: usize, end: usize, long: &mut [u8]) {
+    let size = put_given(case, before, end, long);
+    ask_case(case, hns_encoding::first(long, size));
+    clear(long, 0, before);
+    clear(long, end, size);
+}
+
+fn answer(case: &[u8], long: &mut [u8]) {
+    let before = hns_encoding::u64_at(case, 10) as usize;
+    let zeros = hns_encoding::u64_at(case, 18) as usize;
+    if LONG_ROOM < before {
+        return;
+    }
+    if LONG_ROOM < zeros {
+        return;
+    }
+    ask_long(case, before, before + zeros, long);
+}
+
+// A hexadecimal digit after the ones before it: two make a byte.
+fn take_digit(case: &mut [u8], n: usize, digit: u8) {
+    let value = (digit % 16 + digit / 58 * 9) % 16;
+    let i = n / 2;
+    if i < case.len() {
+        case[i] = case[i] % 16 * 16 + value;
+    }
+}
+
+// Takes a byte of a line after n digits, and answers how many there are then: no line has more than there is room for.
+fn take(case: &mut [u8], n: usize, byte: u8, long: &mut [u8]) -> usize {
+    if byte == 10 {
+        answer(hns_encoding::first(case, n / 2), long);
+        return 0;
+    }
+    take_digit(case, n, byte);
+    if n < ROOM * 2 { n + 1 } else { n }
+}
+
+// The lines of a part of the input: n digits of a line came before it, and how many stand after it.
+fn answers(lines: &[u8], case: &mut [u8], n: usize, long: &mut [u8]) -> usize {
+    let mut digits = n;
+    let mut i: usize = 0;
+    while i < lines.len() {
+        digits = take(case, digits, lines[i], long);
+        i += 1;
+    }
+    digits
+}
+
+// At most 100 parts of the input, which is far more than the file has.
+fn run(lines: &mut [u8], case: &mut [u8], long: &mut [u8]) {
+    let mut digits: usize = 0;
+    let mut parts: usize = 100;
+    while 0 < parts {
+        let size = io::read_full(0, lines);
+        if size == 0 {
+            return;
+        }
+        digits = answers(hns_encoding::first(lines, size), case, digits, long);
+        parts -= 1;
+    }
+}
+
+fn main() {
+    let mut lines = io::large_buffer();
+    let mut case = [0u8; ROOM];
+    let mut long = [0u8; LONG_ROOM];
+    run(&mut lines, &mut case, &mut long);
+}
