@@ -24,7 +24,6 @@ byte c = c .shared-slice-known .given (c .before .before .loop .i) .fits
 loop-holds : tie.Need-loop-holds Inv-loop μ-loop
 unfolding hex
 loop-holds c =
-    let a = c .args .encoder .position in
     let here : c .args .encoder .position + 0 ≡ c .args .encoder .position = omega arith in
     (omega arith, (refl, rw here (put-none _ _ (omega arith))))
 
