@@ -1,6 +1,7 @@
 // Puts of payloads of fixed fields and texts, by a cursor: each has the contract of one put, so that a payload can follow a
 // frame's header.
 use hns_encoder::Encoder;
+ghost use mathlib.Core.Path.{_≡_};
 ghost use mathlib.Core.List.{_∷_};
 ghost use lib.ListN.{length, take};
 ghost use Rattle.hns_refusals.specs.Limits.{maxText};
@@ -76,20 +77,43 @@ fn put_flag(encoder: Encoder, out: &mut [u8], set: bool) -> Encoder
     encoder.put_u8(out, 0)
 }
 
-fn put_remote(encoder: Encoder, out: &mut [u8], remote: AddressFields) -> Encoder
-    ensures { λ r. ⌜ Put (now (out .entry)) (encoder .position) (write address (addressOf remote)) (now (out .exit)) (r .position) ⌝ }
+// The 88 bytes of an address. The array's length is known, so no put of them tests it.
+fn address_block(fields: AddressFields) -> [u8; 88]
+    ensures { λ r. ⌜ r ≡ write address (addressOf fields) ⌝ }
 {
-    let ip = remote.ip;
-    let key = remote.key;
+    let ip = fields.ip;
+    let key = fields.key;
+    let mut block = [0u8; 88];
     put_address(
-        encoder,
-        out,
-        remote.time,
-        remote.services,
+        Encoder::new(),
+        &mut block,
+        fields.time,
+        fields.services,
         &ip,
-        remote.port,
+        fields.port,
         &key,
-    )
+    );
+    block
+}
+
+// Near the output's end, where some bytes may not fit. It makes a block of its own: one that is read up to an unknown
+// length has to be in memory, and that of an address that fits stays in registers.
+fn put_cut(encoder: Encoder, out: &mut [u8], fields: AddressFields) -> Encoder
+    ensures { λ r. ⌜ Put (now (out .entry)) (encoder .position) (write address (addressOf fields)) (now (out .exit)) (r .position) ⌝ }
+{
+    let block = address_block(fields);
+    encoder.put_bytes(out, &block)
+}
+
+// As put_address, by one test of the whole block.
+pub fn put_address_fields(encoder: Encoder, out: &mut [u8], fields: AddressFields) -> Encoder
+    ensures { λ r. ⌜ Put (now (out .entry)) (encoder .position) (write address (addressOf fields)) (now (out .exit)) (r .position) ⌝ }
+{
+    if hns_encoding::remaining(out, encoder.position) < 88 {
+        return put_cut(encoder, out, fields);
+    }
+    let block = address_block(fields);
+    encoder.put_bytes(out, &block)
 }
 
 // An agent over 255 bytes is put as its first 255: the length byte counts no more.
@@ -101,7 +125,7 @@ pub fn put_version(encoder: Encoder, out: &mut [u8], fields: VersionFields, agen
     let e = e.put_u32_le(out, (fields.services % 4_294_967_296) as u32);
     let e = e.put_u32_le(out, 0);
     let e = e.put_u64_le(out, fields.time);
-    let e = put_remote(e, out, remote);
+    let e = put_address_fields(e, out, remote);
     let e = e.put_u64_le(out, fields.nonce);
     let e = put_text(e, out, agent);
     let e = e.put_u32_le(out, fields.height);

@@ -1,18 +1,18 @@
 -- Flat lists: what is copied is what is written item by item, and every item can be written. Assumes nothing.
 use Prim.Native.Nat.{ℕ, zero, suc, _+_, _-_, _*_, _/_, _%_, _^_, _≤_, _<_}
-use mathlib.Core.Path.{_≡_, refl, ap, ap₂, _∙_}
+use mathlib.Core.Path.{_≡_, refl, sym, ap, ap₂, _∙_}
 use mathlib.Core.List.{List, [], _∷_, _++_, map, append-nil, append-assoc}
 use native.Mathlib.Omega.{arith}
 use native.Mathlib.Nat.{suc-mul, div-mul-le-self, mul-le-mul-right, mul-div-cancel}
 use lib.ListN.{length, take, drop, replicate, length-append}
-use lib.Seq.{length-take-le}
-use Rattle.hns_encoding.specs.Bytes.{Bytes, part}
+use lib.Seq.{length-take-le, take-take, drop-drop}
+use Rattle.hns_encoding.specs.Bytes.{Bytes, le, part, numberAt}
 use Rattle.hns_encoding.specs.Compact.{compactBytes}
 use Rattle.hns_encoding.specs.Format.{Format, raw, whole, counted, Value, Fixed, fixedFlat, Fit, All, size, valueAt, write, writeAll, valuesAt}
 use Rattle.hns_encoding.specs.Marks.{Mark, keep, marks, markAll}
 use Rattle.hns_encoding.specs.Put.{Put}
-use Rattle.hns_encoding.specs.Bytes.{numberAt}
-use Rattle.hns_encoding.proofs.Numbers.{part-add}
+use Rattle.hns_encoding.proofs.Numbers.{part-add, part-length}
+use Rattle.hns_encoding.proofs.Reading.{number-there}
 use Rattle.hns_encoding.proofs.Back.{back}
 use Rattle.hns_encoding.proofs.Blocks.{block-fits, fixed-length, length-values}
 use Rattle.hns_encoding.proofs.Forward.{forward, mark-keep}
@@ -90,17 +90,47 @@ module _ (s : List ℕ) (bs : Bytes s) where
 
 -- ---- addresses
 
+-- two copies of eight bytes
+pub sixteen-put : (s : List ℕ) (p : ℕ) {o o′ : List ℕ} {e e′ : ℕ} → Put o e (take (p + 8 - p) (drop p s) ++ take (p + 16 - (p + 8)) (drop (p + 8) s)) o′ e′ → Put o e (part s p 16) o′ e′
+sixteen-put s p put =
+    let a : p + 8 - p ≡ 8 = omega arith in
+    let b : p + 16 - (p + 8) ≡ 8 = omega arith in
+    rw (part-add s p 8 8) (rw (a, b) at put)
+
+pub key-parts : (s : List ℕ) → length s ≡ 67 → part s 34 16 ++ (part s 50 16 ++ take (length s - 66) (drop 66 s)) ≡ part s 34 33
+key-parts s l =
+    let last : length s - 66 ≡ 1 = omega arith in
+    rw (last, part-add s 34 16 17, part-add s 50 16 1)
+
+take-inside : (a m n : ℕ) (l : List ℕ) → a + m ≤ n → take m (drop a (take n l)) ≡ take m (drop a l)
+take-inside zero m n l h = take-take m n l (omega arith)
+take-inside (suc a) m zero l h = absurd (omega arith)
+take-inside (suc a) m (suc n) [] h = refl
+take-inside (suc a) m (suc n) (b ∷ l) h = take-inside a m n l (omega arith)
+
 module _ (s : List ℕ) (p : ℕ) (h : p + 67 ≤ length s) where
-  pub flat-put : {t v q : ℕ} {o o′ : List ℕ} {e e′ : ℕ} → t ≡ numberAt 8 s p → v ≡ numberAt 8 s (p + 8) → q ≡ numberAt 2 s (p + 32)
-      → Put o e (write address (t, (v % 2 ^ 32, (tt, (take (p + 32 - (p + 16)) (drop (p + 16) s), (q, take (p + 67 - (p + 34)) (drop (p + 34) s))))))) o′ e′
-      → Put o e (write address (lowServices (valueAt flatAddress _ s p))) o′ e′
-  flat-put a b c put =
-      let ip : p + 32 - (p + 16) ≡ 16 = omega arith in
-      let key : p + 67 - (p + 34) ≡ 33 = omega arith in
+  abbrev item : List ℕ
+  item = part s p 67
+
+  part-inside : (q n : ℕ) → q + n ≤ 67 → part item q n ≡ part s (p + q) n
+  part-inside q n k = take-inside q n 67 (drop p s) k ∙ ap (take n) (drop-drop q p s)
+
+  number-inside : (q n : ℕ) → q + n ≤ 67 → numberAt n item q ≡ numberAt n s (p + q)
+  number-inside q n k =
+      let long = part-length s p 67 (omega arith) in
+      number-there n item q (omega arith) ∙ ap le (part-inside q n k) ∙ sym (number-there n s (p + q) (omega arith))
+
+  -- an item reads the same in a slice of its own
+  pub item-put : {t : Value address} {o o′ : List ℕ} {e e′ : ℕ} → t ≡ lowServices (valueAt flatAddress _ (take (p + 67 - p) (drop p s)) 0)
+      → Put o e (write address t) o′ e′ → Put o e (write address (lowServices (valueAt flatAddress _ s p))) o′ e′
+  item-put is put =
+      let end : p + 67 - p ≡ 67 = omega arith in
       let p1 : p + 8 + 8 ≡ p + 16 = omega arith in
       let p2 : p + 16 + 16 ≡ p + 32 = omega arith in
       let p3 : p + 32 + 2 ≡ p + 34 = omega arith in
-      rw (p1, p2, p3, ← a, ← b, ← c) (rw (ip, key) at put)
+      let here : p + 0 ≡ p = omega arith in
+      rw (p1, p2, p3)
+      (rw (end, number-inside 0 8 (omega arith), number-inside 8 8 (omega arith), part-inside 16 16 (omega arith), number-inside 32 2 (omega arith), part-inside 34 33 (omega arith), here) at (rw is at put))
 
 -- the bytes of n addresses from a place on
 abbrev pub flatBytes : ℕ → List ℕ → ℕ → List ℕ

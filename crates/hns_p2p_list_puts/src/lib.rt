@@ -1,37 +1,77 @@
 // Puts of payloads with a count, by a cursor: each has the contract of one put. Bytes after the last whole item of a flat
 // list are not put.
 use hns_encoder::Encoder;
+use hns_p2p_block_puts::AddressFields;
 ghost use mathlib.Core.Path.{_≡_};
 ghost use mathlib.Core.List.{_++_, map};
 ghost use Prim.Native.Nat.{_+_, _-_, _*_, _/_, _≤_, min};
 ghost use lib.ListN.{length, take};
+ghost use Rattle.hns_encoding.specs.Bytes.{part};
 ghost use Rattle.hns_encoding.specs.Compact.{compactBytes};
 ghost use Rattle.hns_encoding.specs.Format.{write, writeAll, differences, valueAt, valuesAt};
 ghost use Rattle.hns_encoding.specs.Put.{Put};
 ghost use Rattle.hns_p2p_types.specs.Protocol.{address, addresses, inventory, locator, headers, getblocktxn};
+ghost use Rattle.hns_p2p_block_puts.specs.Fields.{addressOf};
 ghost use Rattle.hns_p2p_list_puts.specs.Fields.{flatAddress, lowServices, addressesOf, inventoryOf, hashesOf, headersOf};
+
+// Sixteen bytes as two copies of eight, each of which is held in a register: no store is waited for.
+fn put_sixteen(encoder: Encoder, out: &mut [u8], item: &[u8], at: usize) -> Encoder
+    requires { ⌜ at + 16 ≤ length (now item) ⌝ }
+    ensures { λ r. ⌜ Put (now (out .entry)) (encoder .position) (part (now (item .entry)) at 16) (now (out .exit)) (r .position) ⌝ }
+{
+    let middle = at + 8;
+    let end = at + 16;
+    let e = encoder.put_bytes(out, &item[at..middle]);
+    e.put_bytes(out, &item[middle..end])
+}
+
+fn ip_of(item: &[u8]) -> [u8; 16]
+    requires { ⌜ length (now item) ≡ 67 ⌝ }
+    ensures { λ r. ⌜ r ≡ part (now (item .entry)) 16 16 ⌝ }
+{
+    let mut ip = [0u8; 16];
+    put_sixteen(Encoder::new(), &mut ip, item, 16);
+    ip
+}
+
+fn key_of(item: &[u8]) -> [u8; 33]
+    requires { ⌜ length (now item) ≡ 67 ⌝ }
+    ensures { λ r. ⌜ r ≡ part (now (item .entry)) 34 33 ⌝ }
+{
+    let mut key = [0u8; 33];
+    let e = put_sixteen(Encoder::new(), &mut key, item, 34);
+    let e = put_sixteen(e, &mut key, item, 50);
+    e.put_bytes(&mut key, &item[66..]);
+    key
+}
+
+// The fields of an item, whose length is known: no read of them tests it.
+fn fields_of(item: &[u8]) -> AddressFields
+    requires { ⌜ length (now item) ≡ 67 ⌝ }
+    ensures { λ r. ⌜ addressOf r ≡ lowServices (valueAt flatAddress _ (now (item .entry)) 0) ⌝ }
+{
+    let time = hns_encoding::u64_at(item, 0);
+    let services = hns_encoding::u64_at(item, 8);
+    let ip = ip_of(item);
+    let port = hns_encoding::u16_at(item, 32);
+    let key = key_of(item);
+    AddressFields {
+        time,
+        services,
+        ip,
+        port,
+        key,
+    }
+}
 
 // The address of a flat list that begins at a place.
 fn put_address_at(encoder: Encoder, out: &mut [u8], items: &[u8], at: usize) -> Encoder
     requires { ⌜ at + 67 ≤ length (now items) ⌝ }
     ensures { λ r. ⌜ Put (now (out .entry)) (encoder .position) (write address (lowServices (valueAt flatAddress _ (now (items .entry)) at))) (now (out .exit)) (r .position) ⌝ }
 {
-    let ip_at = at + 16;
-    let port_at = at + 32;
-    let key_at = at + 34;
     let end = at + 67;
-    let time = hns_encoding::u64_at(items, at);
-    let services = hns_encoding::u64_at(items, at + 8);
-    let port = hns_encoding::u16_at(items, port_at);
-    hns_p2p_block_puts::put_address(
-        encoder,
-        out,
-        time,
-        services,
-        &items[ip_at..port_at],
-        port,
-        &items[key_at..end],
-    )
+    let fields = fields_of(&items[at..end]);
+    hns_p2p_block_puts::put_address_fields(encoder, out, fields)
 }
 
 fn put_addresses(encoder: Encoder, out: &mut [u8], items: &[u8], count: usize) -> Encoder

@@ -1,6 +1,6 @@
 -- How the loops over digits meet the definitions of the export's text. Assumes nothing.
 use Prim.Native.Nat.{ℕ, zero, suc, _+_, _*_, _/_, _%_, _^_, _≤_, _<_}
-use mathlib.Core.Path.{_≡_, refl, ap, _∙_}
+use mathlib.Core.Path.{_≡_, refl, sym, ap, _∙_}
 use mathlib.Core.List.{List, [], _∷_, _++_, append-assoc, map, reverse}
 use native.Mathlib.Omega.{arith}
 use native.Mathlib.Nat.{pow-suc}
@@ -9,8 +9,8 @@ use lib.ListN.{length, take, drop, getD, set, length-set}
 use lib.Seq.{take-suc, drop-cons, getD-set-same, drop-set-lt}
 use borrow.Author.Tests.{le-ltb, lt-ltb}
 use Rattle.hns_encoding.specs.Bytes.{leBytes}
-use Rattle.hns_encoding.specs.Put.{Put}
-use Rattle.hns_encoding.proofs.Puts.{then, put-length}
+use Rattle.hns_encoding.specs.Put.{Put, advance}
+use Rattle.hns_encoding.proofs.Puts.{then, put-length, splice-byte}
 use Rattle.survey_export.specs.Text.{digit, hex, space, hexPayload, decimalUpTo, decimal}
 
 -- ---- the table of sixteen
@@ -47,6 +47,11 @@ hex-append : (x y : List ℕ) → hex (x ++ y) ≡ hex x ++ hex y
 unfolding hex
 hex-append [] y = refl
 hex-append (b ∷ x) y = rw (hex-append x y)
+
+-- a store is a put of one byte
+pub put-set : (o : List ℕ) (p b : ℕ) → p + 1 < 2 ^ 64 → Put o p (b ∷ []) (set o p b) (p + 1)
+unfolding advance
+put-set o p b h = record { next = omega arith; bytes = sym (splice-byte o p b) }
 
 pub hex-turn : {o : List ℕ} {p : ℕ} {o₁ : List ℕ} {p₁ : ℕ} {o₂ : List ℕ} {p₂ : ℕ} {o₃ : List ℕ} {p₃ : ℕ} (s : List ℕ) (i : ℕ) {a b : ℕ} → length o < 2 ^ 64 → i < length s
     → a ≡ digit (getD s i 0 / 16) → b ≡ digit (getD s i 0 % 16)

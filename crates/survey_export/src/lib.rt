@@ -4,6 +4,9 @@ use hns_p2p_frame::NetworkMagic;
 use hns_p2p_frame::Prefix;
 use hns_p2p_frame::Pushed;
 ghost use mathlib.Core.Path.{_≡_};
+ghost use Prim.Native.Nat.{_*_, _≤_};
+ghost use lib.ListN.{length};
+ghost use Rattle.hns_encoding.specs.Bytes.{left};
 ghost use Rattle.hns_encoding.specs.Put.{Put};
 ghost use Rattle.hns_p2p_frame.specs.declared.NetworkMagic.the-variants.{Mainnet};
 ghost use Rattle.hns_p2p_frame.specs.Walk.{cut};
@@ -38,8 +41,29 @@ const FULL: usize = 65_536 - 2 * 24_576 - 32;
 
 const DIGITS: [u8; 16] = *b"0123456789abcdef";
 
-// Bytes as digits. The table is taken before the loop, which then keeps it at hand.
-pub fn put_hex(encoder: Encoder, out: &mut [u8], bytes: &[u8]) -> Encoder
+// Bytes as digits where they fit: plain stores. The table is taken before the loop, which then keeps it at hand.
+fn set_hex(encoder: Encoder, out: &mut [u8], bytes: &[u8]) -> Encoder
+    requires { ⌜ 2 * length (now bytes) ≤ left (now out) (encoder .position) ⌝ }
+    ensures { λ r. ⌜ Put (now (out .entry)) (encoder .position) (hex (now (bytes .entry))) (now (out .exit)) (r .position) ⌝ }
+{
+    let digits = DIGITS;
+    let at = encoder.position;
+    let mut i = 0;
+    while i < bytes.len() {
+        let b = bytes[i];
+        let high = (b / 16) as usize;
+        let low = (b % 16) as usize;
+        let to = at + 2 * i;
+        out[to] = digits[high];
+        out[to + 1] = digits[low];
+        i += 1;
+    }
+    let end = at + 2 * bytes.len();
+    Encoder { position: end }
+}
+
+// Near the text's end, where some may not fit: each digit by a put.
+fn put_hex_cut(encoder: Encoder, out: &mut [u8], bytes: &[u8]) -> Encoder
     ensures { λ r. ⌜ Put (now (out .entry)) (encoder .position) (hex (now (bytes .entry))) (now (out .exit)) (r .position) ⌝ }
 {
     let digits = DIGITS;
@@ -54,6 +78,16 @@ pub fn put_hex(encoder: Encoder, out: &mut [u8], bytes: &[u8]) -> Encoder
         i += 1;
     }
     e
+}
+
+// Bytes as digits, by one test of the whole run.
+pub fn put_hex(encoder: Encoder, out: &mut [u8], bytes: &[u8]) -> Encoder
+    ensures { λ r. ⌜ Put (now (out .entry)) (encoder .position) (hex (now (bytes .entry))) (now (out .exit)) (r .position) ⌝ }
+{
+    if hns_encoding::remaining(out, encoder.position) / 2 < bytes.len() {
+        return put_hex_cut(encoder, out, bytes);
+    }
+    set_hex(encoder, out, bytes)
 }
 
 fn put_payload(encoder: Encoder, out: &mut [u8], payload: &[u8]) -> Encoder

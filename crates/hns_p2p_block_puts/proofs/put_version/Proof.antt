@@ -23,8 +23,8 @@ put-u32-le-requires-3 c κs = search needs
 put-u64-le-requires : tie.Need-put-u64-le-requires
 put-u64-le-requires c κs = search needs
 
-put-remote-requires : tie.Need-put-remote-requires
-put-remote-requires c κs = search needs
+put-address-fields-requires : tie.Need-put-address-fields-requires
+put-address-fields-requires c κs = search needs
 
 put-u64-le-requires-2 : tie.Need-put-u64-le-requires-2
 put-u64-le-requires-2 c κs = search needs
@@ -58,7 +58,7 @@ returns c =
     ⨟ c2 .put-u32-le2 .ensures
     ⨟ c3 .put-u32-le3 .ensures
     ⨟ c4 .put-u64-le .ensures
-    ⨟ c5 .put-remote .ensures
+    ⨟ c5 .put-address-fields .ensures
     ⨟ c6 .put-u64-le2 .ensures
     ⨟ c7 .put-text .ensures
     ⨟ c8 .put-u32-le4 .ensures
@@ -77,7 +77,7 @@ put-version-spec =
     put-u32-le-requires-2
     put-u32-le-requires-3
     put-u64-le-requires
-    put-remote-requires
+    put-address-fields-requires
     put-u64-le-requires-2
     put-text-requires
     put-u32-le-requires-4
