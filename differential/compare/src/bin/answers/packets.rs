@@ -35,7 +35,7 @@ impl List {
             self.cuts(packet_type, &fields);
         }
         for (packet_type, payload) in payloads::bad() {
-            self.packet(packet_type, &payload, 2);
+            self.refused(packet_type, &payload);
         }
         for (packet_type, payload, count) in payloads::limits() {
             self.limit(packet_type, &payload, count);
@@ -145,7 +145,7 @@ impl List {
 
     /// A payload that every question is refused for.
     fn refused(&mut self, packet_type: u8, payload: &[u8]) {
-        self.packet(packet_type, payload, 0);
+        self.packet(packet_type, payload, 2);
         self.item(packet_type, payload, 0);
         self.rewrite(packet_type, payload, 2);
         self.find(packet_type, payload, &[7; 32]);
