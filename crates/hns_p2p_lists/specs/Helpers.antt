@@ -1,6 +1,8 @@
 -- What the contracts of private functions say: a count and as many items of fixed size, as one block, and the packets of formats that several types share. No public contract cites this file.
-use Prim.Native.Nat.{ℕ, _+_, _*_, _/_, _%_}
+use Prim.Native.Nat.{ℕ, zero, suc, _+_, _*_, _/_, _%_, _≤_, _<_}
+use mathlib.Core.Path.{_≡_}
 use mathlib.Core.List.{List}
+use lib.ListN.{length, getD}
 use lib.Dec.{leb, eqb}
 use Rattle.hns_encoding.specs.Bytes.{choose, left, Outcome, got, stop, after, bytesAt, endAt, toEnd}
 use Rattle.hns_encoding.specs.Compact.{countAt}
@@ -25,6 +27,29 @@ recordsAt n ws s at =
 -- a count of at most so many, and as many records
 unfoldable pub listAt : ℕ → ℕ → List ℕ → List ℕ → ℕ → Outcome Items
 listAt limit field ws s at = after (countAt limit field s at) (λ n next. recordsAt n ws s next)
+
+-- ---- differences of one byte each
+
+-- the sum of n bytes from a place on
+unfoldable pub sumAt : ℕ → List ℕ → ℕ → ℕ
+sumAt zero s at = 0
+sumAt (suc n) s at = getD s at 0 + sumAt n s (at + 1)
+
+-- n bytes from a place on, each of which is a compact size alone
+pub record Alone (n : ℕ) (s : List ℕ) (at : ℕ) : Type 0 where
+  pub inside : at + n ≤ length s
+  pub each : (j : ℕ) → j < n → getD s (at + j) 0 < 253
+
+-- the sum of 16 of them, or 65,536
+pub record RunSum (s : List ℕ) (at r : ℕ) : Type 0 where
+  pub most : r ≤ 65536
+  pub alone : r < 65536 → Alone 16 s at
+  pub sum : r < 65536 → r ≡ sumAt 16 s at
+
+-- and as many indexes are left
+pub record NextRun (s : List ℕ) (at i count r : ℕ) : Type 0 where
+  pub run : RunSum s at r
+  pub left : r < 65536 → i + 16 ≤ count
 
 -- ---- by type
 

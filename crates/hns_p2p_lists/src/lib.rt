@@ -13,11 +13,16 @@ use hns_p2p_types::NET_ADDRESS_SIZE;
 use hns_p2p_types::Packet;
 use hns_refusals::Refusal;
 ghost use mathlib.Core.Path.{_≡_};
-ghost use Prim.Native.Nat.{_*_, _<_, _^_};
+ghost use Prim.Native.Nat.{_+_, _-_, _*_, _≤_, _<_, _^_};
+ghost use lib.ListN.{length};
+ghost use Rattle.hns_refusals.specs.Limits.{maxIndex};
+ghost use Rattle.hns_refusals.specs.Refusals.{indexField};
+ghost use Rattle.hns_encoding.specs.Compact.{countAt};
 ghost use Rattle.hns_encoding.specs.Format.{sum, indexesFrom};
+ghost use Rattle.hns_encoding.specs.Answers.{numberOf};
 ghost use Rattle.hns_p2p_types.specs.Packets.{fieldsOf};
 ghost use Rattle.hns_p2p_lists.specs.Lists.{passedOf};
-ghost use Rattle.hns_p2p_lists.specs.Helpers.{listKind, locatorKind, inventoryOf, locatorOf, listAt, countedOf, listPacket, stopPacket};
+ghost use Rattle.hns_p2p_lists.specs.Helpers.{listKind, locatorKind, inventoryOf, locatorOf, listAt, countedOf, listPacket, stopPacket, RunSum, NextRun};
 
 // The Rust's limits, as counts are compared with them.
 const ADDRESSES: u64 = MAX_ADDR_ITEMS as u64;
@@ -196,30 +201,100 @@ pub fn read_headers(payload: &[u8]) -> Packet
     )
 }
 
-// So many differences from a place on: each index is the one before, its difference and one more.
+fn wide(x: u8) -> u64
+    ensures { λ r. ⌜ (r ≡ x) × (r < 256) ⌝ }
+{
+    x as u64
+}
+
+// A difference: a byte alone, and 253 with two more, are read where they stand; all else is read as a count, and refused.
+fn read_difference(payload: &[u8], at: usize) -> Number
+    ensures { λ r. ⌜ r ≡ numberOf (countAt maxIndex indexField (now (payload .entry)) at) ⌝ }
+{
+    if at < payload.len() {
+        let head = wide(payload[at]);
+        if head < 253 {
+            return Number::Value(head, at + 1);
+        }
+        let two = hns_encoding::u16_at(payload, at + 1) as u64;
+        if (head == 253) & (253 <= two) {
+            return Number::Value(two, at + 3);
+        }
+    }
+    hns_encoding::read_count(payload, at, 65_535, 6)
+}
+
+// The sum of 16 bytes, or 65,536 where one of them is no difference alone. All of them are looked at, without a branch.
+fn run_sum(payload: &[u8], at: usize) -> u64
+    requires { ⌜ at + 16 ≤ length (now payload) ⌝ }
+    ensures { λ r. ⌜ RunSum (now (payload .entry)) at r ⌝ }
+{
+    let mut sum: u64 = 0;
+    let mut alone = true;
+    let mut i = 0;
+    while i < 16 {
+        let byte = wide(payload[at + i]);
+        sum += byte;
+        alone = alone & (byte < 253);
+        i += 1;
+    }
+    if alone { sum } else { 65_536 }
+}
+
+// The same of the next 16 differences, where there are so many. It is asked at every 16th index only, so that a list of longer
+// differences is not looked at twice.
+fn next_run(payload: &[u8], at: usize, i: u64, count: u64) -> u64
+    requires { ⌜ i ≤ count ⌝ }
+    ensures { λ r. ⌜ NextRun (now (payload .entry)) at i count r ⌝ }
+{
+    if (i % 16 == 0) & (16 <= count - i) {
+        if 16 <= hns_encoding::remaining(payload, at) {
+            return run_sum(payload, at);
+        }
+    }
+    65_536
+}
+
+// The index before the least that the next can be: 0 where there is none.
+fn index_before(base: u64) -> u64
+    ensures { λ r. ⌜ r ≡ base - 1 ⌝ }
+{
+    if base == 0 { 0 } else { base - 1 }
+}
+
+// So many differences from a place on: each index is the one before, its difference and one more. Of 16 that are a byte each
+// only the last index is compared, which is the greatest.
 pub fn pass_indexes(payload: &[u8], count: u64, first: usize) -> Passed
     ensures { λ r. ⌜ r ≡ passedOf 0 (indexesFrom count 0 (now (payload .entry)) first) ⌝ }
 {
     let mut i: u64 = 0;
     let mut base: u64 = 0;
-    let mut last: u64 = 0;
     let mut next = first;
     while i < count {
-        match hns_encoding::read_count(payload, next, 65_535, 6) {
-            Number::Refused(refusal) => return Passed::Refused(refusal),
-            Number::Value(difference, after) => {
-                let index = base + difference;
-                if 65_535 < index {
-                    return Passed::Refused(Refusal::index_over());
+        let sum = next_run(payload, next, i, count);
+        if base + sum <= 65_520 {
+            base = base + sum + 16;
+            next += 16;
+            i += 16;
+        } else {
+            match read_difference(payload, next) {
+                Number::Refused(refusal) => return Passed::Refused(refusal),
+                Number::Value(difference, after) => {
+                    let index = base + difference;
+                    if 65_535 < index {
+                        return Passed::Refused(Refusal::index_over());
+                    }
+                    base = index + 1;
+                    next = after;
+                    i += 1;
                 }
-                base = index + 1;
-                last = index;
-                next = after;
-                i += 1;
             }
         }
     }
-    Passed::To { next, last }
+    Passed::To {
+        next,
+        last: index_before(base),
+    }
 }
 
 pub fn read_getblocktxn(payload: &[u8]) -> Packet
