@@ -1,5 +1,5 @@
 -- Indexes to an output's front: what is stored and what is left are the whole list. Assumes nothing.
-use Prim.Native.Nat.{ℕ, suc, _+_, _-_, _≤_, _<_}
+use Prim.Native.Nat.{ℕ, suc, _+_, _-_, _*_, _≤_, _<_}
 use mathlib.Core.Path.{_≡_, refl, sym, ap, _∙_, subst}
 use mathlib.Core.List.{List, [], _∷_}
 use native.Mathlib.Omega.{arith}
@@ -19,7 +19,7 @@ use Rattle.hns_encoding.proofs.Outcomes.{after-got, choose-got, bytes-got, byte
 use Rattle.hns_encoding.proofs.Puts.{splice-fits, splice-append, splice-byte}
 use Rattle.hns_encoding.proofs.Forms.{Wide, two, four, eight, wide-from, First as FirstByte, alone, leads, first}
 use Rattle.hns_encoding.proofs.Reading.{number-there}
-use Rattle.hns_p2p_lists.proofs.Differences.{one-byte}
+use Rattle.hns_p2p_lists.proofs.Differences.{one-byte, two-number}
 use Rattle.hns_p2p_types.specs.Protocol.{getblocktxn, always, readBy}
 use Rattle.hns_p2p_types.specs.declared.Items.{Items}
 use Rattle.hns_p2p_types.specs.declared.Listing.{Listing}
@@ -45,7 +45,7 @@ wide-got n least s p {v} {next} e =
     let b = after-got (bytesAt n s p) _ (g .2) in
     let h = bytes-got n s p (b .2) in
     let same : v ≡ g .0 = cc in
-    let value : v ≡ le (b .0) = cc (c .1, b .3) in
+    let value : v ≡ le (b .0) = cc (b .3) in
     let end : next ≡ b .1 = cc (c .1, b .3) in
     (omega (arith, leb-true least (g .0) (c .0), same), value ∙ (ap le (h .0) ∙ sym (number-there n s p (h .2))), end ∙ h .1, h .2)
 
@@ -57,34 +57,35 @@ two-after eight s p e h = absurd (omega (arith, wide-got 8 4294967296 s p (sym (
 
 module _ (s : List ℕ) (p : ℕ) (t : StepThere s p) where
   -- its first byte, and what that says
-  head : (compactFrom (getD s p 0) s (p + 1) ≡ got (t .difference) (t .next)) × (p < length s)
+  head-says : (compactFrom (getD s p 0) s (p + 1) ≡ got (t .difference) (t .next)) × (p < length s)
   unfolding compactAt
-  head =
+  head-says =
       let g = after-got (leAt 1 s p) _ (count-got maxIndex indexField s p (t .reads) .0) in
       let h = byte-got s p (g .2) in
       (rw (h .0, h .1) at (g .3), h .2)
 
   pub step-inside : p < length s
-  step-inside = head .1
+  step-inside = head-says .1
 
-  pub step-one : getD s p 0 < 253 → countAt maxIndex indexField s p ≡ got (getD s p 0) (p + 1)
-  step-one = one-byte s p step-inside
+  module _ {head : ℕ} (e : head ≡ getD s p 0) where
+    pub step-one : head < 253 → countAt maxIndex indexField s p ≡ got head (p + 1)
+    step-one h = rw e (one-byte s p step-inside (omega arith))
 
-  module _ (low : 253 ≤ getD s p 0) (high : getD s p 0 < 256) where
-    after-head : (t .difference ≡ numberAt 2 s (p + 1)) × (t .next ≡ p + 1 + 2) × (2 ≤ length s - (p + 1))
-    after-head = go (first (getD s p 0) high)
-      where
-        go : FirstByte (getD s p 0) → (t .difference ≡ numberAt 2 s (p + 1)) × (t .next ≡ p + 1 + 2) × (2 ≤ length s - (p + 1))
-        go (alone h) = absurd (omega arith)
-        go (leads w) = two-after w s (p + 1) (head .0) (count-got maxIndex indexField s p (t .reads) .1)
+    module _ (low : 253 ≤ head) (high : head < 256) where
+      after-head : (t .difference ≡ numberAt 2 s (p + 1)) × (t .next ≡ p + 1 + 2) × (2 ≤ length s - (p + 1))
+      after-head = go (first (getD s p 0) (omega arith))
+        where
+          go : FirstByte (getD s p 0) → (t .difference ≡ numberAt 2 s (p + 1)) × (t .next ≡ p + 1 + 2) × (2 ≤ length s - (p + 1))
+          go (alone h) = absurd (omega arith)
+          go (leads w) = two-after w s (p + 1) (head-says .0) (count-got maxIndex indexField s p (t .reads) .1)
 
-    pub step-more : p + 3 ≤ length s
-    step-more = omega (arith, after-head .2)
+      pub step-more : p + 3 ≤ length s
+      step-more = omega (arith, after-head .2)
 
-    pub step-three : {two : ℕ} → two ≡ numberAt 2 s (p + 1) → countAt maxIndex indexField s p ≡ got two (p + 3)
-    step-three e =
-        let end : t .next ≡ p + 3 = omega (arith, after-head .1) in
-        t .reads ∙ rw (after-head .0 ∙ sym e, end)
+      pub step-three : {x y : ℕ} → x ≡ getD s (p + 1) 0 → y ≡ getD s (p + 2) 0 → countAt maxIndex indexField s p ≡ got (x + 256 * y) (p + 3)
+      step-three ex ey =
+          let end : t .next ≡ p + 3 = omega (arith, after-head .1) in
+          t .reads ∙ rw (after-head .0 ∙ sym (two-number s p step-more ex ey), end)
 
 -- ---- the loop
 

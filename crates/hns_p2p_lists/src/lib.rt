@@ -16,13 +16,10 @@ ghost use mathlib.Core.Path.{_≡_};
 ghost use Prim.Native.Nat.{_+_, _-_, _*_, _≤_, _<_, _^_};
 ghost use lib.ListN.{length};
 ghost use Rattle.hns_refusals.specs.Limits.{maxIndex};
-ghost use Rattle.hns_refusals.specs.Refusals.{indexField};
-ghost use Rattle.hns_encoding.specs.Compact.{countAt};
 ghost use Rattle.hns_encoding.specs.Format.{sum, indexesFrom};
-ghost use Rattle.hns_encoding.specs.Answers.{numberOf};
 ghost use Rattle.hns_p2p_types.specs.Packets.{fieldsOf};
 ghost use Rattle.hns_p2p_lists.specs.Lists.{passedOf};
-ghost use Rattle.hns_p2p_lists.specs.Helpers.{listKind, locatorKind, inventoryOf, locatorOf, listAt, countedOf, listPacket, stopPacket, RunSum, NextRun};
+ghost use Rattle.hns_p2p_lists.specs.Helpers.{listKind, locatorKind, inventoryOf, locatorOf, listAt, countedOf, listPacket, stopPacket, RunSum, Grouped, NextGroup};
 
 // The Rust's limits, as counts are compared with them.
 const ADDRESSES: u64 = MAX_ADDR_ITEMS as u64;
@@ -207,23 +204,6 @@ fn wide(x: u8) -> u64
     x as u64
 }
 
-// A difference: a byte alone, and 253 with two more, are read where they stand; all else is read as a count, and refused.
-fn read_difference(payload: &[u8], at: usize) -> Number
-    ensures { λ r. ⌜ r ≡ numberOf (countAt maxIndex indexField (now (payload .entry)) at) ⌝ }
-{
-    if at < payload.len() {
-        let head = wide(payload[at]);
-        if head < 253 {
-            return Number::Value(head, at + 1);
-        }
-        let two = hns_encoding::u16_at(payload, at + 1) as u64;
-        if (head == 253) & (253 <= two) {
-            return Number::Value(two, at + 3);
-        }
-    }
-    hns_encoding::read_count(payload, at, 65_535, 6)
-}
-
 // The sum of 16 bytes, or 65,536 where one of them is no difference alone. All of them are looked at, without a branch.
 fn run_sum(payload: &[u8], at: usize) -> u64
     requires { ⌜ at + 16 ≤ length (now payload) ⌝ }
@@ -241,18 +221,80 @@ fn run_sum(payload: &[u8], at: usize) -> u64
     if alone { sum } else { 65_536 }
 }
 
-// The same of the next 16 differences, where there are so many. It is asked at every 16th index only, so that a list of longer
-// differences is not looked at twice.
-fn next_run(payload: &[u8], at: usize, i: u64, count: u64) -> u64
-    requires { ⌜ i ≤ count ⌝ }
-    ensures { λ r. ⌜ NextRun (now (payload .entry)) at i count r ⌝ }
+// Sixteen indexes on: the least that the next can be, and where its difference stands. A least above 65,536 says that they
+// were not passed, and are to be read one by one.
+struct Group {
+    base: u64,
+    next: usize,
+}
+
+// Sixteen differences of one byte or three. Whether one is neither, or an index too great, is asked once, after the last.
+fn walk_group(payload: &[u8], base: u64, at: usize) -> Group
+    requires { ⌜ (base ≤ maxIndex + 1) × (at + 48 ≤ length (now payload)) ⌝ }
+    ensures { λ r. ⌜ Grouped (now (payload .entry)) base at (r .base) (r .next) ⌝ }
 {
-    if (i % 16 == 0) & (16 <= count - i) {
-        if 16 <= hns_encoding::remaining(payload, at) {
-            return run_sum(payload, at);
+    let mut least = base;
+    let mut next = at;
+    let mut good = true;
+    let mut i: u64 = 0;
+    while i < 16 {
+        let head = wide(payload[next]);
+        if head < 253 {
+            least = least + head + 1;
+            next += 1;
+            i += 1;
+        } else {
+            let two = wide(payload[next + 1]) + 256 * wide(payload[next + 2]);
+            good = good & (head == 253) & (253 <= two);
+            least = least + two + 1;
+            next += 3;
+            i += 1;
         }
     }
-    65_536
+    if good {
+        Group { base: least, next }
+    } else {
+        Group { base: 65_537, next }
+    }
+}
+
+// The next sixteen indexes: by one sum where all differences are one byte.
+fn group_at(payload: &[u8], base: u64, at: usize) -> Group
+    requires { ⌜ base ≤ maxIndex + 1 ⌝ }
+    ensures { λ r. ⌜ Grouped (now (payload .entry)) base at (r .base) (r .next) ⌝ }
+{
+    let there = hns_encoding::remaining(payload, at);
+    if 16 <= there {
+        let sum = run_sum(payload, at);
+        if sum < 65_536 {
+            let next = at + 16;
+            return Group {
+                base: base + sum + 16,
+                next,
+            };
+        }
+    }
+    if 48 <= there {
+        return walk_group(payload, base, at);
+    }
+    Group {
+        base: 65_537,
+        next: at,
+    }
+}
+
+// The same where so many are left. It is asked at every 16th index only, so that what is read one by one is not walked twice.
+fn next_group(payload: &[u8], base: u64, at: usize, i: u64, count: u64) -> Group
+    requires { ⌜ (base ≤ maxIndex + 1) × (i ≤ count) ⌝ }
+    ensures { λ r. ⌜ NextGroup (now (payload .entry)) base at i count (r .base) (r .next) ⌝ }
+{
+    if (i % 16 == 0) & (16 <= count - i) {
+        return group_at(payload, base, at);
+    }
+    Group {
+        base: 65_537,
+        next: at,
+    }
 }
 
 // The index before the least that the next can be: 0 where there is none.
@@ -262,8 +304,7 @@ fn index_before(base: u64) -> u64
     if base == 0 { 0 } else { base - 1 }
 }
 
-// So many differences from a place on: each index is the one before, its difference and one more. Of 16 that are a byte each
-// only the last index is compared, which is the greatest.
+// So many differences from a place on: each index is the one before, its difference and one more.
 pub fn pass_indexes(payload: &[u8], count: u64, first: usize) -> Passed
     ensures { λ r. ⌜ r ≡ passedOf 0 (indexesFrom count 0 (now (payload .entry)) first) ⌝ }
 {
@@ -271,13 +312,13 @@ pub fn pass_indexes(payload: &[u8], count: u64, first: usize) -> Passed
     let mut base: u64 = 0;
     let mut next = first;
     while i < count {
-        let sum = next_run(payload, next, i, count);
-        if base + sum <= 65_520 {
-            base = base + sum + 16;
-            next += 16;
+        let group = next_group(payload, base, next, i, count);
+        if group.base <= 65_536 {
+            base = group.base;
+            next = group.next;
             i += 16;
         } else {
-            match read_difference(payload, next) {
+            match hns_encoding::read_count(payload, next, 65_535, 6) {
                 Number::Refused(refusal) => return Passed::Refused(refusal),
                 Number::Value(difference, after) => {
                     let index = base + difference;

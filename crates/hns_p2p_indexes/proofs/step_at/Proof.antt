@@ -5,51 +5,63 @@ use borrow.Author.Needs.{needs}
 use Rattle.hns_p2p_indexes.proofs.step_at.Statement.{statement}
 use Rattle.hns_p2p_indexes.proofs.step_at.Tie as tie
 
-shared-slice-read-head : tie.Need-shared-slice-read-head
-shared-slice-read-head c = step-inside _ _ (c .before .before .pre)
+shared-slice-read-wide : tie.Need-shared-slice-read-wide
+shared-slice-read-wide c = step-inside _ _ (c .before .before .pre)
 
-cast-t8 : tie.Need-cast-t8
-cast-t8 c = search needs
+wide-requires : tie.Need-wide-requires
+wide-requires c κs = search needs
 
-add-t9 : tie.Need-add-t9
-add-t9 c = omega (arith, step-inside _ _ (c .before .before .before .pre))
+add-after : tie.Need-add-after
+add-after c = omega (arith, step-inside _ _ (c .before .before .before .before .pre))
 
-add-u16-at : tie.Need-add-u16-at
-add-u16-at c = omega (arith, step-inside _ _ (c .before .before .before .pre))
+add-wide : tie.Need-add-wide
+add-wide c = omega (arith, step-more _ _ (c .before .before .before .before .pre) (c .before .wide .ensures .0) (omega arith) (c .before .wide .ensures .1))
 
-u16-at-requires : tie.Need-u16-at-requires
-u16-at-requires c κs = search needs
+shared-slice-read-wide-2 : tie.Need-shared-slice-read-wide-2
+shared-slice-read-wide-2 c = omega (arith, step-more _ _ (c .before .before .before .before .before .pre) (c .before .before .wide .ensures .0) (omega arith) (c .before .before .wide .ensures .1))
 
-cast-t12 : tie.Need-cast-t12
-cast-t12 c = search needs
+wide-requires-2 : tie.Need-wide-requires-2
+wide-requires-2 c κs = search needs
 
-add-t13 : tie.Need-add-t13
-add-t13 c =
-    let a = c .before .before .before .before .args in
-    let s = a .payload .now in
-    let byte = c .before .before .before .shared-slice-known .given (a .at) .fits in
-    omega (arith, step-more s (a .at) (c .before .before .before .before .pre) (omega arith) byte)
+add-wide-2 : tie.Need-add-wide-2
+add-wide-2 c = omega (arith, step-more _ _ (c .before .before .before .before .before .before .pre) (c .before .before .before .wide .ensures .0) (omega arith) (c .before .before .before .wide .ensures .1))
+
+shared-slice-read-wide-3 : tie.Need-shared-slice-read-wide-3
+shared-slice-read-wide-3 c = omega (arith, step-more _ _ (c .before .before .before .before .before .before .before .pre) (c .before .before .before .before .wide .ensures .0) (omega arith) (c .before .before .before .before .wide .ensures .1))
+
+wide-requires-3 : tie.Need-wide-requires-3
+wide-requires-3 c κs = search needs
+
+mul-two : tie.Need-mul-two
+mul-two c = search needs
+
+add-two : tie.Need-add-two
+add-two c = search needs
+
+add-after-2 : tie.Need-add-after-2
+add-after-2 c = omega (arith, step-more _ _ (c .before .before .before .before .before .before .before .before .pre) (c .before .before .before .before .before .wide .ensures .0) (omega arith) (c .before .before .before .before .before .wide .ensures .1))
 
 returns : tie.Need-returns
-returns c = step-one _ _ (c .before .before .before .pre) (c .if1 .taken)
+returns c = step-one _ _ (c .before .before .before .before .pre) (c .before .wide .ensures .0) (omega arith)
 
 returns-2 : tie.Need-returns-2
-returns-2 c =
-    let a = c .before .before .before .before .args in
-    let s = a .payload .now in
-    let byte = c .before .before .before .shared-slice-known .given (a .at) .fits in
-    step-three s (a .at) (c .before .before .before .before .pre) (omega arith) byte (c .u16-at .ensures)
+returns-2 c = step-three _ _ (c .before .before .before .before .before .before .before .before .pre) (c .before .before .before .before .before .wide .ensures .0) (omega arith) (c .before .before .before .before .before .wide .ensures .1) (c .before .before .wide2 .ensures .0) (c .wide3 .ensures .0)
 
 pub step-at-spec : {M : Type 1} → statement M
 step-at-spec =
     tie.close
     (tie.spec
-    shared-slice-read-head
-    cast-t8
-    add-t9
-    add-u16-at
-    u16-at-requires
-    cast-t12
-    add-t13
+    shared-slice-read-wide
+    wide-requires
+    add-after
+    add-wide
+    shared-slice-read-wide-2
+    wide-requires-2
+    add-wide-2
+    shared-slice-read-wide-3
+    wide-requires-3
+    mul-two
+    add-two
+    add-after-2
     returns
     returns-2)

@@ -2,7 +2,7 @@
 use Prim.Native.Nat.{_-_}
 use native.Mathlib.Omega.{arith}
 use borrow.Author.Needs.{needs}
-use Rattle.hns_p2p_lists.proofs.Differences.{PassedTo, pass-start, run-left, run-inside, pass-run, pass-refused, pass-most, pass-over, pass-next, pass-end}
+use Rattle.hns_p2p_lists.proofs.Differences.{PassedTo, pass-start, pass-group, pass-refused, pass-most, pass-over, pass-next, pass-end}
 use Rattle.hns_p2p_lists.proofs.pass_indexes.Statement.{statement}
 use Rattle.hns_p2p_lists.proofs.pass_indexes.Tie as tie
 
@@ -15,53 +15,41 @@ abbrev μ-loop : tie.MeasureT-loop
 loop-holds : tie.Need-loop-holds Inv-loop μ-loop
 loop-holds c = let a = c .before .args in pass-start (a .count) (a .payload .now) (a .first)
 
-next-run-requires : tie.Need-next-run-requires Inv-loop μ-loop
-next-run-requires c κs = search needs
-
-add-if1 : tie.Need-add-if1 Inv-loop μ-loop
-add-if1 c = omega (arith, c .before .before .loop .inv .low, c .next-run .ensures .run .most)
-
-add-base : tie.Need-add-base Inv-loop μ-loop
-add-base c = omega arith
-
-add-base-2 : tie.Need-add-base-2 Inv-loop μ-loop
-add-base-2 c = omega arith
-
-add-next : tie.Need-add-next Inv-loop μ-loop
-add-next c = omega (arith, run-inside (c .before .before .before .loop .inv) (c .before .next-run .ensures) (c .if1 .taken))
+next-group-requires : tie.Need-next-group-requires Inv-loop μ-loop
+next-group-requires c κs = (c .before .loop .inv .low, c .before .loop .inv .some)
 
 add-i : tie.Need-add-i Inv-loop μ-loop
-add-i c = omega (arith, run-left (c .before .before .before .loop .inv) (c .before .next-run .ensures) (c .if1 .taken))
+add-i c = omega (arith, c .before .before .next-group .ensures .left (omega arith))
 
 loop-less : tie.Need-loop-less Inv-loop μ-loop
-loop-less c = omega (arith, run-left (c .before .before .before .loop .inv) (c .before .next-run .ensures) (c .if1 .taken))
+loop-less c = omega (arith, c .before .before .next-group .ensures .left (omega arith))
 
 loop-again : tie.Need-loop-again Inv-loop μ-loop
-loop-again c = pass-run (c .before .before .before .loop .inv) (c .before .next-run .ensures) (c .if1 .taken)
+loop-again c = pass-group (c .before .before .before .before .loop .inv) (c .before .before .next-group .ensures) (omega arith)
 
-read-difference-requires : tie.Need-read-difference-requires Inv-loop μ-loop
-read-difference-requires c κs = search needs
+read-count-requires : tie.Need-read-count-requires Inv-loop μ-loop
+read-count-requires c κs = search needs
 
 enum-known-refusal : tie.Need-enum-known-refusal Inv-loop μ-loop
 enum-known-refusal c = search needs
 
 returns : tie.Need-returns Inv-loop μ-loop
-returns c = pass-refused (c .before .before .before .before .before .before .before .loop .inv) (c .before .before .before .before .before .before .loop-test .taken) (c .before .before .before .read-difference .ensures) (c .before .refusal .given .1)
+returns c = pass-refused (c .before .before .before .before .before .before .before .before .loop .inv) (c .before .before .before .before .before .before .before .loop-test .taken) (c .before .before .before .read-count .ensures) (c .before .refusal .given .1)
 
 enum-known-difference : tie.Need-enum-known-difference Inv-loop μ-loop
 enum-known-difference c = search needs
 
 add-index : tie.Need-add-index Inv-loop μ-loop
-add-index c = omega (arith, c .before .before .before .before .before .before .before .loop .inv .low, pass-most (c .before .before .before .before .before .before .before .loop .inv) (c .before .before .before .before .before .before .loop-test .taken) (c .before .before .before .read-difference .ensures) (c .before .difference .given .1))
+add-index c = omega (arith, c .before .before .before .before .before .before .before .before .loop .inv .low, pass-most (c .before .before .before .before .before .before .before .before .loop .inv) (c .before .before .before .before .before .before .before .loop-test .taken) (c .before .before .before .read-count .ensures) (c .before .difference .given .1))
 
 index-over-requires : tie.Need-index-over-requires Inv-loop μ-loop
 index-over-requires c κs = search needs
 
 returns-2 : tie.Need-returns-2 Inv-loop μ-loop
-returns-2 c = pass-over (c .before .before .before .before .before .before .before .before .before .loop .inv) (c .before .before .before .before .before .before .before .before .loop-test .taken) (c .before .before .before .before .before .read-difference .ensures) (c .before .before .before .difference .given .1) (c .before .if2 .taken) (c .index-over .ensures)
+returns-2 c = pass-over (c .before .before .before .before .before .before .before .before .before .before .loop .inv) (c .before .before .before .before .before .before .before .before .before .loop-test .taken) (c .before .before .before .before .before .read-count .ensures) (c .before .before .before .difference .given .1) (omega arith) (c .index-over .ensures)
 
-add-base-3 : tie.Need-add-base-3 Inv-loop μ-loop
-add-base-3 c = omega arith
+add-base : tie.Need-add-base Inv-loop μ-loop
+add-base c = omega arith
 
 add-i-2 : tie.Need-add-i-2 Inv-loop μ-loop
 add-i-2 c = omega arith
@@ -70,7 +58,7 @@ loop-less-2 : tie.Need-loop-less-2 Inv-loop μ-loop
 loop-less-2 c = omega arith
 
 loop-again-2 : tie.Need-loop-again-2 Inv-loop μ-loop
-loop-again-2 c = pass-next (c .before .before .before .before .before .before .before .before .loop .inv) (c .before .before .before .before .before .before .before .loop-test .taken) (c .before .before .before .before .read-difference .ensures) (c .before .before .difference .given .1) (c .if2 .left)
+loop-again-2 c = pass-next (c .before .before .before .before .before .before .before .before .before .loop .inv) (c .before .before .before .before .before .before .before .before .loop-test .taken) (c .before .before .before .before .read-count .ensures) (c .before .before .difference .given .1) (omega arith)
 
 index-before-requires : tie.Need-index-before-requires Inv-loop μ-loop
 index-before-requires c κs = search needs
@@ -85,22 +73,18 @@ pass-indexes-spec =
     Inv-loop
     μ-loop
     loop-holds
-    next-run-requires
-    add-if1
-    add-base
-    add-base-2
-    add-next
+    next-group-requires
     add-i
     loop-less
     loop-again
-    read-difference-requires
+    read-count-requires
     enum-known-refusal
     returns
     enum-known-difference
     add-index
     index-over-requires
     returns-2
-    add-base-3
+    add-base
     add-i-2
     loop-less-2
     loop-again-2
