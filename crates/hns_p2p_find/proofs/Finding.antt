@@ -61,6 +61,16 @@ unfolding agree
 agree-all zero s p h e = refl
 agree-all (suc n) s p h e = rw (agree-all n s p h (λ j b. e j (omega arith)), eq-eqb (getD s (p + n) 0) (getD h n 0) (e n (omega arith)))
 
+-- what differs in its first n bytes differs
+pub agree-less : (n m : ℕ) (s : List ℕ) (p : ℕ) (h : List ℕ) → n ≤ m → agree n s p h ≡ false → false ≡ agree m s p h
+agree-less n m s p h b e = go (agree m s p h) refl
+  where
+    go : (r : Bool) → agree m s p h ≡ r → false ≡ r
+    go false k = refl
+    go true k =
+        let all : agree n s p h ≡ true = agree-all n s p h (λ j c. agree-each m s p h k j (omega arith)) in
+        let z : _≡_ {A = ℕ} 0 1 = cc in absurd (omega arith)
+
 part-at : (s : List ℕ) (p n j : ℕ) → j < n → getD (part s p n) j 0 ≡ getD s (p + j) 0
 part-at s p n j b = getD-take n (drop p s) j 0 b ∙ getD-drop p s j 0
 

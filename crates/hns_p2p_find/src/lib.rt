@@ -8,18 +8,31 @@ ghost use Rattle.hns_p2p_items.specs.Items.{listedOf};
 ghost use Rattle.hns_p2p_find.specs.Find.{Finds};
 ghost use Rattle.hns_p2p_find.specs.Helpers.{FindsLowest, agree, Scanned};
 
-// Whether the 32 bytes at a place are the hash: all of them are compared, without a branch.
-fn same_hash(payload: &[u8], at: usize, hash: [u8; 32]) -> bool
-    requires { ⌜ at + 32 ≤ length (now payload) ⌝ }
-    ensures { λ r. ⌜ r ≡ agree 32 (now (payload .entry)) at hash ⌝ }
+// Whether n bytes at a place are the first of the hash: all of them are compared, without a branch.
+fn same_bytes(payload: &[u8], at: usize, hash: [u8; 32], n: usize) -> bool
+    requires { ⌜ (at + n ≤ length (now payload)) × (n ≤ 32) ⌝ }
+    ensures { λ r. ⌜ r ≡ agree n (now (payload .entry)) at hash ⌝ }
 {
     let mut same = true;
     let mut i = 0;
-    while i < 32 {
+    while i < n {
         same = same & (payload[at + i] == hash[i]);
         i += 1;
     }
     same
+}
+
+// Whether the hash stands at a place. Eight bytes are one comparison, and most items differ there; those that don't cost one
+// more, however many bytes they share.
+fn same_hash(payload: &[u8], at: usize, hash: [u8; 32]) -> bool
+    requires { ⌜ at + 32 ≤ length (now payload) ⌝ }
+    ensures { λ r. ⌜ r ≡ agree 32 (now (payload .entry)) at hash ⌝ }
+{
+    if same_bytes(payload, at, hash, 8) {
+        same_bytes(payload, at, hash, 32)
+    } else {
+        false
+    }
 }
 
 // The lowest place of an item with the hash, of `count` items from `first` on: kind 4, hash 32.

@@ -1,26 +1,25 @@
 -- Indexes to an output's front: what is stored and what is left are the whole list. Assumes nothing.
-use Prim.Native.Nat.{ℕ, suc, _+_, _-_, _≤_, _<_}
+use Prim.Native.Nat.{ℕ, suc, _+_, _-_, _*_, _≤_, _<_}
 use mathlib.Core.Path.{_≡_, refl, sym, ap, _∙_, subst}
 use mathlib.Core.List.{List, [], _∷_}
 use native.Mathlib.Omega.{arith}
-use lib.ListN.{length, set, length-set, take-append-drop}
+use lib.ListN.{length, getD, set, length-set, take-append-drop}
 use lib.Dec.{leb}
-use borrow.Author.Tests.{le-leb, lt-leb}
+use borrow.Author.Tests.{le-leb, lt-leb, leb-true}
 use denote.Enum.Declared.{tagOf}
 use types.Run.{OneOf, miss}
 use Rattle.hns_refusals.specs.declared.Refusal.{Refusal}
 use Rattle.hns_refusals.specs.Limits.{maxPayload, maxIndex}
 use Rattle.hns_refusals.specs.Refusals.{outputShort, indexField}
-use Rattle.hns_encoding.specs.Bytes.{Bytes, Outcome, got, stop}
-use Rattle.hns_encoding.specs.Compact.{compactAt}
+use Rattle.hns_encoding.specs.Bytes.{le, Bytes, Outcome, got, stop, bytesAt, leAt, numberAt}
+use Rattle.hns_encoding.specs.Compact.{wideAt, compactFrom, compactAt, countAt}
 use Rattle.hns_encoding.specs.Format.{Value, read, indexesFrom}
 use Rattle.hns_encoding.specs.Put.{splice}
-use Rattle.hns_encoding.specs.Answers.{numberOf}
-use Rattle.hns_encoding.specs.declared.Number.{Number}
-use Rattle.hns_encoding.specs.declared.Number.the-variants as N
-use Rattle.hns_encoding.proofs.Outcomes.{choose-got, toEnd-got, count-got}
+use Rattle.hns_encoding.proofs.Outcomes.{after-got, choose-got, bytes-got, byte-got, toEnd-got, count-got}
 use Rattle.hns_encoding.proofs.Puts.{splice-fits, splice-append, splice-byte}
-use Rattle.hns_encoding.proofs.Reading.{value-read, refusal-read}
+use Rattle.hns_encoding.proofs.Forms.{Wide, two, four, eight, wide-from, First as FirstByte, alone, leads, first}
+use Rattle.hns_encoding.proofs.Reading.{number-there}
+use Rattle.hns_p2p_lists.proofs.Differences.{one-byte, two-number}
 use Rattle.hns_p2p_types.specs.Protocol.{getblocktxn, always, readBy}
 use Rattle.hns_p2p_types.specs.declared.Items.{Items}
 use Rattle.hns_p2p_types.specs.declared.Listing.{Listing}
@@ -34,7 +33,59 @@ use Rattle.hns_p2p_items.specs.Listings.{listIn, listingOf, Indexed}
 use Rattle.hns_p2p_items.proofs.Held.{indexed-there}
 use Rattle.hns_p2p_items.proofs.Items.{First, first-of}
 use Rattle.hns_p2p_indexes.specs.Indexes.{Answer, storedBy, storedOf}
-use Rattle.hns_p2p_indexes.specs.Helpers.{Reads, indexesOf}
+use Rattle.hns_p2p_indexes.specs.Helpers.{Reads, StepThere, indexesOf}
+
+-- ---- a difference that reads
+
+wide-got : (n least : ℕ) (s : List ℕ) (p : ℕ) {v next : ℕ} → wideAt n least s p ≡ got v next → (least ≤ v) × (v ≡ numberAt n s p) × (next ≡ p + n) × (n ≤ length s - p)
+unfolding wideAt leAt
+wide-got n least s p {v} {next} e =
+    let g = after-got (leAt n s p) _ e in
+    let c = choose-got (leb least (g .0)) _ _ (g .3) in
+    let b = after-got (bytesAt n s p) _ (g .2) in
+    let h = bytes-got n s p (b .2) in
+    let same : v ≡ g .0 = cc in
+    let value : v ≡ le (b .0) = cc (b .3) in
+    let end : next ≡ b .1 = cc (c .1, b .3) in
+    (omega (arith, leb-true least (g .0) (c .0), same), value ∙ (ap le (h .0) ∙ sym (number-there n s p (h .2))), end ∙ h .1, h .2)
+
+-- of the wide forms only that of two bytes holds an index
+two-after : {b n least : ℕ} → Wide b n least → (s : List ℕ) (p : ℕ) {v next : ℕ} → compactFrom b s p ≡ got v next → v ≤ maxIndex → (v ≡ numberAt 2 s p) × (next ≡ p + 2) × (2 ≤ length s - p)
+two-after two s p e h = let g = wide-got 2 253 s p (sym (wide-from two s p) ∙ e) in (g .1, g .2, g .3)
+two-after four s p e h = absurd (omega (arith, wide-got 4 65536 s p (sym (wide-from four s p) ∙ e) .0))
+two-after eight s p e h = absurd (omega (arith, wide-got 8 4294967296 s p (sym (wide-from eight s p) ∙ e) .0))
+
+module _ (s : List ℕ) (p : ℕ) (t : StepThere s p) where
+  -- its first byte, and what that says
+  head-says : (compactFrom (getD s p 0) s (p + 1) ≡ got (t .difference) (t .next)) × (p < length s)
+  unfolding compactAt
+  head-says =
+      let g = after-got (leAt 1 s p) _ (count-got maxIndex indexField s p (t .reads) .0) in
+      let h = byte-got s p (g .2) in
+      (rw (h .0, h .1) at (g .3), h .2)
+
+  pub step-inside : p < length s
+  step-inside = head-says .1
+
+  module _ {head : ℕ} (e : head ≡ getD s p 0) where
+    pub step-one : head < 253 → countAt maxIndex indexField s p ≡ got head (p + 1)
+    step-one h = rw e (one-byte s p step-inside (omega arith))
+
+    module _ (low : 253 ≤ head) (high : head < 256) where
+      after-head : (t .difference ≡ numberAt 2 s (p + 1)) × (t .next ≡ p + 1 + 2) × (2 ≤ length s - (p + 1))
+      after-head = go (first (getD s p 0) (omega arith))
+        where
+          go : FirstByte (getD s p 0) → (t .difference ≡ numberAt 2 s (p + 1)) × (t .next ≡ p + 1 + 2) × (2 ≤ length s - (p + 1))
+          go (alone h) = absurd (omega arith)
+          go (leads w) = two-after w s (p + 1) (head-says .0) (count-got maxIndex indexField s p (t .reads) .1)
+
+      pub step-more : p + 3 ≤ length s
+      step-more = omega (arith, after-head .2)
+
+      pub step-three : {x y : ℕ} → x ≡ getD s (p + 1) 0 → y ≡ getD s (p + 2) 0 → countAt maxIndex indexField s p ≡ got (x + 256 * y) (p + 3)
+      step-three ex ey =
+          let end : t .next ≡ p + 3 = omega (arith, after-head .1) in
+          t .reads ∙ rw (after-head .0 ∙ sym (two-number s p step-more ex ey), end)
 
 -- ---- the loop
 
@@ -65,19 +116,14 @@ made-turn k base s p f =
       is = rw (f .difference, le-leb (base + f .d) maxIndex (f .small), f .reads);
     }
 
-module _ (k base : ℕ) (s : List ℕ) (p : ℕ) (r : Reads (suc k) base s p) {read : Number} (e : read ≡ numberOf (compactAt s p)) where
-  never-refused : {q : Refusal} → read ≡ N.Refused q → ⊥
-  never-refused g =
-      let f = first-of k base s p (r .reads) in
-      let a = count-got maxIndex indexField s p (f .difference) .0 in
-      let b = refusal-read (compactAt s p) e g in
-      let z : _≡_ {A = ℕ} 0 1 = cc in omega arith
+module _ (k base : ℕ) (s : List ℕ) (p : ℕ) (r : Reads (suc k) base s p) where
+  step-there : StepThere s p
+  step-there = let f = first-of k base s p (r .reads) in record { difference = f .d; next = f .next; reads = f .difference }
 
-  turn : {d next : ℕ} → read ≡ N.Value d next → Turn k base s p d next
-  turn {d} {next} g =
+  turn : {d next : ℕ} → countAt maxIndex indexField s p ≡ got d next → Turn k base s p d next
+  turn {d} {next} e =
       let f = first-of k base s p (r .reads) in
-      let a = count-got maxIndex indexField s p (f .difference) .0 in
-      let b = value-read (compactAt s p) e g in
+      let a = f .difference in
       let same-d : f .d ≡ d = cc in
       let same-next : f .next ≡ next = cc in
       subst (λ (n : ℕ). Turn k base s p d n) same-next (subst (λ (n : ℕ). Turn k base s p n (f .next)) same-d (made-turn k base s p f))
@@ -99,26 +145,25 @@ module _ {count : ℕ} {s : List ℕ} {first : ℕ} {o₀ o : List ℕ} {i base 
     here : Reads (suc (count - (i + 1))) base s next
     here = subst (λ (n : ℕ). Reads n base s next) more (t .rest)
 
-    module _ {read : Number} (e : read ≡ numberOf (compactAt s next)) where
-      pub store-never : {q : Refusal} → read ≡ N.Refused q → ⊥
-      store-never g = never-refused (count - (i + 1)) base s next here e g
+    pub store-there : StepThere s next
+    store-there = step-there (count - (i + 1)) base s next here
 
-      module _ {d after : ℕ} (g : read ≡ N.Value d after) where
-        pub store-small : base + d ≤ maxIndex
-        store-small = turn (count - (i + 1)) base s next here e g .small
+    module _ {d after : ℕ} (e : countAt maxIndex indexField s next ≡ got d after) where
+      pub store-small : base + d ≤ maxIndex
+      store-small = turn (count - (i + 1)) base s next here e .small
 
-        pub store-next : StoredTo count s first o₀ (set o i (base + d)) (i + 1) (base + d + 1) after
-        store-next =
-            let u = turn (count - (i + 1)) base s next here e g in
-            record {
-              some = omega arith;
-              low = omega (arith, u .small);
-              long = length-set o i (base + d) ∙ t .long;
-              rest = u .rest;
-              whole = t .whole
-                  ∙ (ap (λ (n : ℕ). splice o i (indexesOf (indexesFrom n base s next))) more
-                  ∙ (ap (splice o i) (u .is) ∙ splice-cons o i (base + d) (indexesOf (indexesFrom (count - (i + 1)) (base + d + 1) s after))));
-            }
+      pub store-next : StoredTo count s first o₀ (set o i (base + d)) (i + 1) (base + d + 1) after
+      store-next =
+          let u = turn (count - (i + 1)) base s next here e in
+          record {
+            some = omega arith;
+            low = omega (arith, u .small);
+            long = length-set o i (base + d) ∙ t .long;
+            rest = u .rest;
+            whole = t .whole
+                ∙ (ap (λ (n : ℕ). splice o i (indexesOf (indexesFrom n base s next))) more
+                ∙ (ap (splice o i) (u .is) ∙ splice-cons o i (base + d) (indexesOf (indexesFrom (count - (i + 1)) (base + d + 1) s after))));
+          }
 
   pub store-end : count ≤ i → o ≡ splice o₀ 0 (indexesOf (indexesFrom count 0 s first))
   store-end h =

@@ -1,15 +1,52 @@
 // All indexes of a getblocktxn payload at once, for callers that would fetch them one by one.
-use hns_encoding::Number;
 use hns_p2p_types::Listing;
 use hns_p2p_types::Stored;
 use hns_refusals::Refusal;
 ghost use mathlib.Core.Path.{_≡_};
-ghost use Prim.Native.Nat.{_≤_};
+ghost use Prim.Native.Nat.{_≤_, _<_};
 ghost use lib.ListN.{length};
+ghost use Rattle.hns_refusals.specs.Limits.{maxIndex};
+ghost use Rattle.hns_refusals.specs.Refusals.{indexField};
+ghost use Rattle.hns_encoding.specs.Bytes.{got};
+ghost use Rattle.hns_encoding.specs.Compact.{countAt};
 ghost use Rattle.hns_encoding.specs.Format.{indexesFrom};
 ghost use Rattle.hns_encoding.specs.Put.{splice};
 ghost use Rattle.hns_p2p_indexes.specs.Indexes.{storedOf};
-ghost use Rattle.hns_p2p_indexes.specs.Helpers.{Reads, indexesOf};
+ghost use Rattle.hns_p2p_indexes.specs.Helpers.{Reads, StepThere, indexesOf};
+
+// A difference and the place after it.
+struct Step {
+    difference: u64,
+    after: usize,
+}
+
+fn wide(x: u8) -> u64
+    ensures { λ r. ⌜ (r ≡ x) × (r < 256) ⌝ }
+{
+    x as u64
+}
+
+// A difference that reads is a byte alone, or two after 253: no other form is short enough.
+fn step_at(payload: &[u8], at: usize) -> Step
+    requires { ⌜ StepThere (now payload) at ⌝ }
+    ensures { λ r. ⌜ countAt maxIndex indexField (now (payload .entry)) at ≡ got (r .difference) (r .after) ⌝ }
+{
+    let head = wide(payload[at]);
+    if head < 253 {
+        let after = at + 1;
+        Step {
+            difference: head,
+            after,
+        }
+    } else {
+        let two = wide(payload[at + 1]) + 256 * wide(payload[at + 2]);
+        let after = at + 3;
+        Step {
+            difference: two,
+            after,
+        }
+    }
+}
 
 // So many indexes, which read, to the output's front.
 fn store(payload: &[u8], count: usize, first: usize, out: &mut [u64])
@@ -20,16 +57,12 @@ fn store(payload: &[u8], count: usize, first: usize, out: &mut [u64])
     let mut base: u64 = 0;
     let mut next = first;
     while i < count {
-        match hns_encoding::read_compact_size(payload, next) {
-            Number::Refused(_) => return,
-            Number::Value(difference, after) => {
-                let index = base + difference;
-                out[i] = index;
-                base = index + 1;
-                next = after;
-                i += 1;
-            }
-        }
+        let step = step_at(payload, next);
+        let index = base + step.difference;
+        out[i] = index;
+        base = index + 1;
+        next = step.after;
+        i += 1;
     }
 }
 

@@ -1,60 +1,24 @@
 -- `same_hash` meets its contract. Assumes nothing.
-use Prim.Native.Nat.{_-_, _≤_}
-use mathlib.Core.Path.{_≡_, ap, _∙_}
+use mathlib.Core.Path.{sym, _∙_}
 use native.Mathlib.Omega.{arith}
-use Rattle.hns_p2p_find.specs.Helpers.{agree}
-use Rattle.hns_p2p_find.proofs.Finding.{agree-none, agree-next}
+use borrow.Author.Needs.{needs}
+use Rattle.hns_p2p_find.proofs.Finding.{agree-less}
 use Rattle.hns_p2p_find.proofs.same_hash.Statement.{statement}
 use Rattle.hns_p2p_find.proofs.same_hash.Tie as tie
 
-abbrev Inv-loop : tie.InvT-loop
-Inv-loop payload at hash same₀ i₀ same i = (i ≤ 32) × (same ≡ agree i payload at hash)
+same-bytes-requires : tie.Need-same-bytes-requires
+same-bytes-requires c κs = search needs
 
-abbrev μ-loop : tie.MeasureT-loop
-μ-loop payload at hash same₀ i₀ same i = 32 - i
+same-bytes-requires-2 : tie.Need-same-bytes-requires-2
+same-bytes-requires-2 c κs = search needs
 
-loop-holds : tie.Need-loop-holds Inv-loop μ-loop
-loop-holds c = (omega arith, agree-none _ _ _)
+returns : tie.Need-returns
+returns c = search needs
 
-add-same : tie.Need-add-same Inv-loop μ-loop
-add-same c = omega arith
-
-shared-slice-read-same : tie.Need-shared-slice-read-same Inv-loop μ-loop
-shared-slice-read-same c = omega arith
-
-array-read-same : tie.Need-array-read-same Inv-loop μ-loop
-array-read-same c = omega arith
-
-add-i : tie.Need-add-i Inv-loop μ-loop
-add-i c = omega arith
-
-loop-less : tie.Need-loop-less Inv-loop μ-loop
-loop-less c = omega arith
-
-loop-again : tie.Need-loop-again Inv-loop μ-loop
-loop-again c =
-    let l = c .before .before .loop in
+returns-2 : tie.Need-returns-2
+returns-2 c =
     let a = c .before .before .before .args in
-    (omega arith, agree-next (l .i) (a .payload .now) (a .at) (a .t3) (l .inv .1))
-
-returns : tie.Need-returns Inv-loop μ-loop
-returns c =
-    let l = c .before .loop in
-    let a = c .before .before .args in
-    let all : l .i ≡ 32 = omega arith in
-    l .inv .1 ∙ ap (λ n. agree n (a .payload .now) (a .at) (a .t3)) all
+    agree-less 8 32 (a .payload .now) (a .at) (a .hash) (omega arith) (sym (c .before .same-bytes .ensures) ∙ c .if1 .left)
 
 pub same-hash-spec : {M : Type 1} → statement M
-same-hash-spec =
-    tie.close
-    (tie.spec
-    Inv-loop
-    μ-loop
-    loop-holds
-    add-same
-    shared-slice-read-same
-    array-read-same
-    add-i
-    loop-less
-    loop-again
-    returns)
+same-hash-spec = tie.close (tie.spec same-bytes-requires same-bytes-requires-2 returns returns-2)
