@@ -305,7 +305,12 @@ impl Answer<'_> {
 
     fn headers(&self) -> Result<Vec<Header>, Refusal> {
         let items = self.payload[self.at(2)..].chunks_exact(crate::HEADER_SIZE);
-        items.map(Header::decode).collect()
+        // A list of results would not know how long it will be, and grow.
+        let mut headers = Vec::with_capacity(self.at(1));
+        for item in items {
+            headers.push(Header::decode(item)?);
+        }
+        Ok(headers)
     }
 
     fn reject(&self) -> RejectPacket {
