@@ -4,15 +4,14 @@ use native.Mathlib.Omega.{arith}
 use lib.Dec.{eqb}
 use borrow.Author.Tests.{leb-true}
 use Rattle.hns_p2p_lists.proofs.Differences.{both, no-group}
-use borrow.Author.Needs.{needs}
 use Rattle.hns_p2p_lists.proofs.next_group.Statement.{statement}
 use Rattle.hns_p2p_lists.proofs.next_group.Tie as tie
 
 sub-if1 : tie.Need-sub-if1
-sub-if1 c = search needs
+sub-if1 c = omega arith
 
 group-at-requires : tie.Need-group-at-requires
-group-at-requires c κs = search needs
+group-at-requires c κs = omega arith
 
 returns : tie.Need-returns
 returns c =

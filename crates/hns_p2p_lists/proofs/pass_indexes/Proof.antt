@@ -28,7 +28,7 @@ loop-again : tie.Need-loop-again Inv-loop μ-loop
 loop-again c = pass-group (c .before .before .before .before .loop .inv) (c .before .before .next-group .ensures) (omega arith)
 
 read-count-requires : tie.Need-read-count-requires Inv-loop μ-loop
-read-count-requires c κs = search needs
+read-count-requires c κs = tt
 
 enum-known-refusal : tie.Need-enum-known-refusal Inv-loop μ-loop
 enum-known-refusal c = search needs
@@ -43,7 +43,7 @@ add-index : tie.Need-add-index Inv-loop μ-loop
 add-index c = omega (arith, c .before .before .before .before .before .before .before .before .loop .inv .low, pass-most (c .before .before .before .before .before .before .before .before .loop .inv) (c .before .before .before .before .before .before .before .loop-test .taken) (c .before .before .before .read-count .ensures) (c .before .difference .given .1))
 
 index-over-requires : tie.Need-index-over-requires Inv-loop μ-loop
-index-over-requires c κs = search needs
+index-over-requires c κs = tt
 
 returns-2 : tie.Need-returns-2 Inv-loop μ-loop
 returns-2 c = pass-over (c .before .before .before .before .before .before .before .before .before .before .loop .inv) (c .before .before .before .before .before .before .before .before .before .loop-test .taken) (c .before .before .before .before .before .read-count .ensures) (c .before .before .before .difference .given .1) (omega arith) (c .index-over .ensures)
@@ -61,7 +61,7 @@ loop-again-2 : tie.Need-loop-again-2 Inv-loop μ-loop
 loop-again-2 c = pass-next (c .before .before .before .before .before .before .before .before .before .loop .inv) (c .before .before .before .before .before .before .before .before .loop-test .taken) (c .before .before .before .before .read-count .ensures) (c .before .before .difference .given .1) (omega arith)
 
 index-before-requires : tie.Need-index-before-requires Inv-loop μ-loop
-index-before-requires c κs = search needs
+index-before-requires c κs = tt
 
 returns-3 : tie.Need-returns-3 Inv-loop μ-loop
 returns-3 c = pass-end (c .before .before .loop .inv) (c .before .loop-test .left) (c .index-before .ensures)
