@@ -7,7 +7,7 @@ use crate::packet::read_row;
 use crate::types::{array, ip};
 use crate::writers::VersionFields;
 use crate::{
-    CompactBlockRequest, GetProofPacket, Header, Inventory, InventoryKind, LocatorPacket,
+    CompactBlockRequest, Encoder, GetProofPacket, Header, Inventory, InventoryKind, LocatorPacket,
     MAX_USER_AGENT_SIZE, NetAddress, PacketRow, PacketType, Refusal, RejectPacket, VersionPacket,
     indexes, write_addr, write_empty, write_feefilter, write_getblocktxn, write_getproof,
     write_headers, write_inventory, write_locator, write_nonce, write_raw, write_reject,
@@ -173,7 +173,7 @@ impl Packet {
             Self::GetBlocks(packet) | Self::GetHeaders(packet) => {
                 written(|out| write_locator(packet.locator.as_flattened(), &packet.stop, out))
             }
-            Self::Headers(headers) => listed(headers, Header::encode, write_headers),
+            Self::Headers(headers) => encode_headers(headers),
             Self::Reject(packet) => encode_reject(packet),
             Self::FeeFilter(rate) => written(|out| write_feefilter(*rate, out)),
             Self::SendCmpct { mode, version } => {
@@ -407,6 +407,16 @@ fn listed<T, const N: usize>(
 ) -> Result<Vec<u8>, Refusal> {
     let flat: Vec<[u8; N]> = items.iter().map(flat).collect();
     written(|out| write(flat.as_flattened(), out))
+}
+
+/// Headers are put side by side where the writer takes them, and not encoded one by one and copied.
+fn encode_headers(headers: &[Header]) -> Result<Vec<u8>, Refusal> {
+    let mut flat = vec![0; headers.len() * crate::HEADER_SIZE];
+    let mut encoder = Encoder::new(&mut flat);
+    headers
+        .iter()
+        .for_each(|header| header.encode_to(&mut encoder));
+    written(|out| write_headers(&flat, out))
 }
 
 fn encode_version(packet: &VersionPacket) -> Result<Vec<u8>, Refusal> {
