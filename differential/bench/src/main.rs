@@ -31,7 +31,7 @@ fn main() {
     machine();
     println!("medians of {runs} runs; MB/s of input; ratios of time, below 1 is faster");
     println!(
-        "{:<56}{:>9}{:>9}{:>9}{:>12}{:>12}",
+        "{:<64}{:>9}{:>9}{:>9}{:>12}{:>12}",
         "", "port", "Rust", "copy", "port/Rust", "port/copy"
     );
     let inputs = inputs::Inputs::new();
@@ -40,10 +40,11 @@ fn main() {
         measure(rows::row(row, &inputs, &mut buffers), runs);
     }
     println!("packets:");
-    let samples = packets::samples();
+    let (samples, alike) = (packets::samples(), packets::alike());
     for row in packets::rows(&samples, &buffers) {
         measure(row, runs);
     }
+    measure(packets::find_alike(&alike, &buffers), runs);
     println!("packets with values of their own, on both sides:");
     for row in packets::owned(&samples, &buffers) {
         measure(row, runs);
@@ -84,7 +85,7 @@ fn measure(mut row: Row<'_>, runs: usize) {
     let [port, rust, copy] = times.map(median);
     let speed = |time: f64| row.bytes as f64 / time / 1e6;
     println!(
-        "{:<56}{:>9.0}{:>9.0}{:>9.0}{:>12.2}{:>12.2}",
+        "{:<64}{:>9.0}{:>9.0}{:>9.0}{:>12.2}{:>12.2}",
         row.name,
         speed(port),
         speed(rust),

@@ -34,6 +34,32 @@ const LISTS: [(&str, usize); 8] = [
     ("getblocktxn of 1,666", 1_666),
 ];
 
+/// An inventory whose hashes all share 31 bytes with the one that is looked for: the worst for a search
+/// that compares the first bytes first.
+pub fn alike() -> Sample {
+    let items = (0..50_000).map(|i| {
+        let mut hash = NOWHERE;
+        hash[31] = 10 + (i % 200) as u8;
+        let kind = InventoryKind::from_u32(2);
+        Inventory { kind, hash }
+    });
+    sample(("inv of 50,000", Packet::Inv(items.collect())))
+}
+
+/// A hash that no sample has.
+const NOWHERE: [u8; 32] = [9; 32];
+
+fn sample((name, packet): (&'static str, Packet)) -> Sample {
+    let payload = packet.encode_payload().expect("a good packet");
+    let times = (400_000 / payload.len()).clamp(1, 10_000);
+    Sample {
+        name,
+        times,
+        packet,
+        payload,
+    }
+}
+
 pub fn samples() -> Vec<Sample> {
     let mut noise = Noise::new();
     let short = [
@@ -42,16 +68,6 @@ pub fn samples() -> Vec<Sample> {
         ("ping", Packet::Ping(noise.array())),
     ];
     let long = LISTS.map(|(name, count)| (name, list(&mut noise, name, count)));
-    let sample = |(name, packet): (&'static str, Packet)| {
-        let payload = packet.encode_payload().expect("a good packet");
-        let times = (400_000 / payload.len()).clamp(1, 10_000);
-        Sample {
-            name,
-            times,
-            packet,
-            payload,
-        }
-    };
     short.into_iter().chain(long).map(sample).collect()
 }
 
@@ -196,6 +212,13 @@ impl Sample {
                 black_box(once());
             }
         })
+    }
+
+    fn inventory(&self) -> &[Inventory] {
+        match &self.packet {
+            Packet::Inv(items) => items,
+            _ => unreachable!("no inventory"),
+        }
     }
 
     fn packet_type(&self) -> u8 {
@@ -359,28 +382,52 @@ fn flat_address(address: &NetAddress) -> Vec<u8> {
 /// The hash of the last item and one that no item has, beside a search of the Rust's vector, which
 /// is decoded before or in the run.
 fn finders<'a>(sample: &'a Sample, buffers: &'a Buffers) -> Vec<Row<'a>> {
-    let Packet::Inv(items) = &sample.packet else {
-        unreachable!("no sample of it");
-    };
-    let last = items.last().expect("there are some").hash;
-    let row = |what: &str, hash: [u8; 32], decoded: bool| {
-        let found = items.iter().position(|item| item.hash == hash);
-        assert_eq!(port::find(6, &sample.payload, &hash), Ok(found));
-        let on_port = sample.again(move || port::find(6, black_box(&sample.payload), &hash));
-        let on_rust = sample.again(move || match sample.read_rust() {
-            Packet::Inv(items) if !decoded => search(&items, &hash),
-            _ => None,
-        });
-        let on_vector = sample.again(move || search(black_box(items), &hash));
-        let on_rust = if decoded { on_vector } else { on_rust };
-        sample.row(what, buffers, on_port, on_rust)
-    };
+    let last = sample.inventory().last().expect("there are some").hash;
     vec![
-        row("find the last, Rust decodes,", last, false),
-        row("find the last, Rust decoded before,", last, true),
-        row("find none, Rust decodes,", [9; 32], false),
-        row("find none, Rust decoded before,", [9; 32], true),
+        find(sample, buffers, "find the last, Rust decodes,", last, false),
+        find(
+            sample,
+            buffers,
+            "find the last, Rust decoded before,",
+            last,
+            true,
+        ),
+        find(sample, buffers, "find none, Rust decodes,", NOWHERE, false),
+        find(
+            sample,
+            buffers,
+            "find none, Rust decoded before,",
+            NOWHERE,
+            true,
+        ),
     ]
+}
+
+pub fn find_alike<'a>(sample: &'a Sample, buffers: &'a Buffers) -> Row<'a> {
+    let what = "find none, 31 bytes shared, Rust decoded before,";
+    find(sample, buffers, what, NOWHERE, true)
+}
+
+fn find<'a>(
+    sample: &'a Sample,
+    buffers: &'a Buffers,
+    what: &str,
+    hash: [u8; 32],
+    decoded: bool,
+) -> Row<'a> {
+    let items = sample.inventory();
+    assert_eq!(
+        port::find(6, &sample.payload, &hash),
+        Ok(search(items, &hash))
+    );
+    let on_port = sample.again(move || port::find(6, black_box(&sample.payload), &hash));
+    let on_vector = sample.again(move || search(black_box(items), &hash));
+    let on_payload = sample.again(move || match sample.read_rust() {
+        Packet::Inv(items) => search(&items, &hash),
+        _ => None,
+    });
+    let on_rust = if decoded { on_vector } else { on_payload };
+    sample.row(what, buffers, on_port, on_rust)
 }
 
 fn search(items: &[Inventory], hash: &[u8; 32]) -> Option<usize> {
