@@ -19,7 +19,7 @@ use Rattle.hns_encoding.proofs.Outcomes.{after-got, choose-got, bytes-got, byte
 use Rattle.hns_encoding.proofs.Puts.{splice-fits, splice-append, splice-byte}
 use Rattle.hns_encoding.proofs.Forms.{Wide, two, four, eight, wide-from, First as FirstByte, alone, leads, first}
 use Rattle.hns_encoding.proofs.Reading.{number-there}
-use Rattle.hns_p2p_lists.proofs.Differences.{one-byte, two-number}
+use Rattle.hns_p2p_differences.proofs.Differences.{one-byte, two-number}
 use Rattle.hns_p2p_types.specs.Protocol.{getblocktxn, always, readBy}
 use Rattle.hns_p2p_types.specs.declared.Items.{Items}
 use Rattle.hns_p2p_types.specs.declared.Listing.{Listing}

@@ -32,9 +32,9 @@ use Rattle.hns_p2p_types.specs.declared.Packet.the-variants as P
 use Rattle.hns_p2p_types.proofs.Packet as packets
 use Rattle.hns_p2p_types.proofs.Listing as listings
 use Rattle.hns_p2p_blocks.proofs.Addresses.{address-is}
-use Rattle.hns_p2p_lists.specs.Lists.{passedOf}
+use Rattle.hns_p2p_differences.specs.Passing.{passedOf}
 use Rattle.hns_p2p_lists.proofs.Lists.{value-stands}
-use Rattle.hns_p2p_lists.proofs.Listed.{index-next, indexes-end}
+use Rattle.hns_p2p_differences.proofs.Passing.{index-next, indexes-end}
 use Rattle.hns_p2p_lists.proofs.Requests.{index-count}
 use Rattle.hns_p2p_items.specs.Items.{Element, anIndex, Listed, sizeOf, answer, pick, answerAt, itemBy, itemOf, listedOf, Stands, key-there, hash-there, bytes-there, header-there, index-there, ItemsStand}
 use Rattle.hns_p2p_items.specs.Listings.{listIn, listingOf, Records, Indexes, Holds, HeldBy}

@@ -11,9 +11,9 @@ use Rattle.hns_p2p_types.specs.declared.Item.the-variants as I
 use Rattle.hns_p2p_types.specs.declared.Listing.{Listing}
 use Rattle.hns_p2p_types.specs.declared.Listing.the-variants as L
 use Rattle.hns_p2p_types.specs.Packets.{addressIn}
-use Rattle.hns_p2p_lists.specs.declared.Passed.{Passed}
-use Rattle.hns_p2p_lists.specs.declared.Passed.the-variants as X
-use Rattle.hns_p2p_lists.specs.Lists.{passedOf}
+use Rattle.hns_p2p_differences.specs.declared.Passed.{Passed}
+use Rattle.hns_p2p_differences.specs.declared.Passed.the-variants as X
+use Rattle.hns_p2p_differences.specs.Passing.{passedOf}
 
 unfoldable pub itemsIn : Listing → Items
 itemsIn (L.Addresses i) = i

@@ -1,6 +1,6 @@
 // Items of a payload: which list stands under its count, and an item of that list by its place.
 use hns_header_consensus::HEADER_SIZE;
-use hns_p2p_lists::Passed;
+use hns_p2p_differences::Passed;
 use hns_p2p_types::Item;
 use hns_p2p_types::Items;
 use hns_p2p_types::Listing;
@@ -69,7 +69,7 @@ fn index_in(payload: &[u8], first: usize, place: usize) -> Item
     ensures { λ r. ⌜ r ≡ indexIn (now (payload .entry)) first place ⌝ }
 {
     let count = (place + 1) as u64;
-    let passed = hns_p2p_lists::pass_indexes(payload, count, first);
+    let passed = hns_p2p_differences::pass_indexes(payload, count, first);
     match passed {
         Passed::To { next: _, last } => Item::Index(last),
         Passed::Refused(refusal) => Item::Refused(refusal),

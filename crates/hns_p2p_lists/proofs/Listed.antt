@@ -1,4 +1,4 @@
--- The answers of lists: a count and records, a stop hash after them, and index lists. Assumes nothing.
+-- The answers of lists: a count and records, and a stop hash after them. Assumes nothing.
 use Prim.Native.Nat.{ℕ, suc, _+_, _-_, _*_, _/_, _%_, _^_, _≤_, _<_}
 use mathlib.Core.Path.{_≡_, refl, sym, ap, _∙_, subst}
 use mathlib.Core.List.{List, [], _∷_}
@@ -9,8 +9,8 @@ use lib.Dec.{leb}
 use borrow.Author.Tests.{le-leb, lt-leb}
 use Rattle.hns_encoding.proofs.Blocks.{length-values}
 use Rattle.hns_refusals.specs.declared.Refusal.{Refusal}
-use Rattle.hns_refusals.specs.Limits.{maxLocator, maxIndex}
-use Rattle.hns_refusals.specs.Refusals.{unexpectedEnd, indexOver, locatorField, indexField}
+use Rattle.hns_refusals.specs.Limits.{maxLocator}
+use Rattle.hns_refusals.specs.Refusals.{unexpectedEnd, locatorField}
 use Rattle.hns_encoding.specs.Bytes.{Bytes, Outcome, got, stop, after, left, bytesAt, endAt, toEnd}
 use Rattle.hns_encoding.specs.Compact.{compactBytes, countAt}
 use Rattle.hns_encoding.specs.Format.{Format, raw, counted, _▸_, Value, read, indexesFrom, widths, sum, size, Fixed, short, valuesAt}
@@ -28,9 +28,8 @@ use Rattle.hns_p2p_types.specs.Protocol.{locator}
 use Rattle.hns_p2p_types.specs.Packets.{itemsAt, locatorPacket, answered}
 use Rattle.hns_p2p_lists.specs.declared.Counted.{Counted}
 use Rattle.hns_p2p_lists.specs.declared.Counted.the-variants as C
-use Rattle.hns_p2p_lists.specs.declared.Passed.the-variants as X
 use Rattle.hns_p2p_blocks.specs.Blocks.{gate}
-use Rattle.hns_p2p_lists.specs.Lists.{passedOf, ListStands}
+use Rattle.hns_p2p_lists.specs.Lists.{ListStands}
 use Rattle.hns_p2p_lists.specs.Helpers.{listKind, locatorKind}
 use Rattle.hns_p2p_lists.specs.Helpers.{recordsAt, listAt, countedOf, listPacket, stopPacket}
 use Rattle.hns_p2p_lists.proofs.Lists.{listed}
@@ -177,30 +176,3 @@ stop-answer t s bs = rw (read-two (counted maxLocator locatorField (raw 32)) (ra
         ≡ answered (λ v. locatorKind t (locatorPacket s v)) (after (after (after o (λ i last. got (values i) last)) (λ a next. after (read (raw 32) s next) (λ b last. got (a, b) last))) (λ v at. after (endAt s at) (λ u last. got v last)))
     go (got i next) e = rw (read-raw 32 s next) (hashed i next (list-place maxLocator locatorField (32 ∷ []) s bs i next e) (bytesAt 32 s next) refl)
     go (stop r) e = refl
-
--- ---- index lists
-
-module _ (k before base : ℕ) (s : List ℕ) (p : ℕ) {read : Number} (e : read ≡ numberOf (countAt maxIndex indexField s p)) where
-  pub index-refused : {r : Refusal} → read ≡ N.Refused r → passedOf before (indexesFrom (suc k) base s p) ≡ X.Refused r
-  unfolding passedOf
-  index-refused g = rw (refusal-read (countAt maxIndex indexField s p) e g)
-
-  module _ {d next : ℕ} (g : read ≡ N.Value d next) where
-    pub difference-most : d ≤ maxIndex
-    difference-most = count-got maxIndex indexField s p (value-read (countAt maxIndex indexField s p) e g) .1
-
-    pub index-over : maxIndex < base + d → passedOf before (indexesFrom (suc k) base s p) ≡ X.Refused indexOver
-    unfolding passedOf
-    index-over h = rw (value-read (countAt maxIndex indexField s p) e g, lt-leb (base + d) maxIndex h)
-
-    pub index-next : base + d ≤ maxIndex → passedOf before (indexesFrom (suc k) base s p) ≡ passedOf (base + d) (indexesFrom k (base + d + 1) s next)
-    unfolding passedOf
-    index-next h = rw (value-read (countAt maxIndex indexField s p) e g, le-leb (base + d) maxIndex h) (go (indexesFrom k (base + d + 1) s next))
-      where
-        go : (o : Outcome (List ℕ)) → passedOf before (after o (λ is last. got ((base + d) ∷ is) last)) ≡ passedOf (base + d) o
-        go (got is last) = refl
-        go (stop r) = refl
-
-pub indexes-end : (before base : ℕ) (s : List ℕ) (p : ℕ) → passedOf before (indexesFrom 0 base s p) ≡ X.To p before
-unfolding passedOf
-indexes-end before base s p = refl

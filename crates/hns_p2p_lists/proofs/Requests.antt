@@ -20,9 +20,9 @@ use Rattle.hns_p2p_types.specs.declared.Packet.{Packet}
 use Rattle.hns_p2p_types.specs.declared.Packet.the-variants as P
 use Rattle.hns_p2p_types.specs.Packets.{row, rows, answered, fieldsOf}
 use Rattle.hns_p2p_blocks.specs.Blocks.{gate}
-use Rattle.hns_p2p_lists.specs.declared.Passed.{Passed}
-use Rattle.hns_p2p_lists.specs.declared.Passed.the-variants as X
-use Rattle.hns_p2p_lists.specs.Lists.{passedOf}
+use Rattle.hns_p2p_differences.specs.declared.Passed.{Passed}
+use Rattle.hns_p2p_differences.specs.declared.Passed.the-variants as X
+use Rattle.hns_p2p_differences.specs.Passing.{passedOf}
 use Rattle.hns_p2p_lists.proofs.Listed.{count-place}
 
 one-more : {i n : ℕ} {is js : List ℕ} → i ∷ is ≡ js → length is ≡ n → length js ≡ suc n

@@ -1,9 +1,9 @@
 -- `run_sum` meets its contract. Assumes nothing.
 use Prim.Native.Nat.{_-_}
 use native.Mathlib.Omega.{arith}
-use Rattle.hns_p2p_lists.proofs.Differences.{RunTo, run-start, run-turn, run-alone, no-run}
-use Rattle.hns_p2p_lists.proofs.run_sum.Statement.{statement}
-use Rattle.hns_p2p_lists.proofs.run_sum.Tie as tie
+use Rattle.hns_p2p_differences.proofs.Differences.{RunTo, run-start, run-turn, run-alone, no-run}
+use Rattle.hns_p2p_differences.proofs.run_sum.Statement.{statement}
+use Rattle.hns_p2p_differences.proofs.run_sum.Tie as tie
 
 abbrev Inv-loop : tie.InvT-loop
 Inv-loop payload at sum₀ alone₀ i₀ sum alone i = RunTo payload at sum alone i

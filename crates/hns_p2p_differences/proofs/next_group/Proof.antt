@@ -3,9 +3,9 @@ use Prim.Native.Nat.{_-_, _%_, _≤_}
 use native.Mathlib.Omega.{arith}
 use lib.Dec.{eqb}
 use borrow.Author.Tests.{leb-true}
-use Rattle.hns_p2p_lists.proofs.Differences.{both, no-group}
-use Rattle.hns_p2p_lists.proofs.next_group.Statement.{statement}
-use Rattle.hns_p2p_lists.proofs.next_group.Tie as tie
+use Rattle.hns_p2p_differences.proofs.Differences.{both, no-group}
+use Rattle.hns_p2p_differences.proofs.next_group.Statement.{statement}
+use Rattle.hns_p2p_differences.proofs.next_group.Tie as tie
 
 sub-if1 : tie.Need-sub-if1
 sub-if1 c = omega arith

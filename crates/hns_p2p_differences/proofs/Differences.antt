@@ -20,10 +20,10 @@ use Rattle.hns_encoding.specs.declared.Number.the-variants as N
 use Rattle.hns_encoding.proofs.Numbers.{lt-or-ge, le-part-add}
 use Rattle.hns_encoding.proofs.Outcomes.{bytes-fits}
 use Rattle.hns_encoding.proofs.Reading.{number-there, byte-number, value-read}
-use Rattle.hns_p2p_lists.specs.declared.Passed.the-variants as X
-use Rattle.hns_p2p_lists.specs.Lists.{passedOf}
-use Rattle.hns_p2p_lists.specs.Helpers.{sumAt, Alone, RunSum, Grouped, NextGroup}
-use Rattle.hns_p2p_lists.proofs.Listed.{index-refused, index-over, index-next, difference-most, indexes-end}
+use Rattle.hns_p2p_differences.specs.declared.Passed.the-variants as X
+use Rattle.hns_p2p_differences.specs.Passing.{passedOf}
+use Rattle.hns_p2p_differences.specs.Helpers.{sumAt, Alone, RunSum, Grouped, NextGroup}
+use Rattle.hns_p2p_differences.proofs.Passing.{index-refused, index-over, index-next, difference-most, indexes-end}
 
 -- ---- one difference
 

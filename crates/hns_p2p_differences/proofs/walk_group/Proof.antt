@@ -1,9 +1,9 @@
 -- `walk_group` meets its contract. Assumes nothing.
 use Prim.Native.Nat.{_-_}
 use native.Mathlib.Omega.{arith}
-use Rattle.hns_p2p_lists.proofs.Differences.{WalkTo, walk-start, walk-inside, walk-one, walk-three, walk-end, no-group}
-use Rattle.hns_p2p_lists.proofs.walk_group.Statement.{statement}
-use Rattle.hns_p2p_lists.proofs.walk_group.Tie as tie
+use Rattle.hns_p2p_differences.proofs.Differences.{WalkTo, walk-start, walk-inside, walk-one, walk-three, walk-end, no-group}
+use Rattle.hns_p2p_differences.proofs.walk_group.Statement.{statement}
+use Rattle.hns_p2p_differences.proofs.walk_group.Tie as tie
 
 abbrev Inv-loop : tie.InvT-loop
 Inv-loop payload base at least₀ next₀ good₀ i₀ least next good i = WalkTo payload base at least next good i

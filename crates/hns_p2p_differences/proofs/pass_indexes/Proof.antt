@@ -2,9 +2,9 @@
 use Prim.Native.Nat.{_-_}
 use native.Mathlib.Omega.{arith}
 use borrow.Author.Needs.{needs}
-use Rattle.hns_p2p_lists.proofs.Differences.{PassedTo, pass-start, pass-group, pass-refused, pass-most, pass-over, pass-next, pass-end}
-use Rattle.hns_p2p_lists.proofs.pass_indexes.Statement.{statement}
-use Rattle.hns_p2p_lists.proofs.pass_indexes.Tie as tie
+use Rattle.hns_p2p_differences.proofs.Differences.{PassedTo, pass-start, pass-group, pass-refused, pass-most, pass-over, pass-next, pass-end}
+use Rattle.hns_p2p_differences.proofs.pass_indexes.Statement.{statement}
+use Rattle.hns_p2p_differences.proofs.pass_indexes.Tie as tie
 
 abbrev Inv-loop : tie.InvT-loop
 Inv-loop payload count first i₀ base₀ next₀ i base next = PassedTo count payload first i base next

@@ -1,8 +1,8 @@
 -- `group_at` meets its contract. Assumes nothing.
-use Rattle.hns_p2p_lists.proofs.Differences.{run-group, no-group}
+use Rattle.hns_p2p_differences.proofs.Differences.{run-group, no-group}
 use native.Mathlib.Omega.{arith}
-use Rattle.hns_p2p_lists.proofs.group_at.Statement.{statement}
-use Rattle.hns_p2p_lists.proofs.group_at.Tie as tie
+use Rattle.hns_p2p_differences.proofs.group_at.Statement.{statement}
+use Rattle.hns_p2p_differences.proofs.group_at.Tie as tie
 
 remaining-requires : tie.Need-remaining-requires
 remaining-requires c κs = tt
