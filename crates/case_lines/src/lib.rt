@@ -15,7 +15,7 @@ pub fn number(n: u64) {
 
 fn digits(bytes: &[u8]) {
     let mut digits = [0u8; DIGITS];
-    let e = survey_export::put_hex(Encoder::new(), &mut digits, bytes);
+    let e = survey_digits::put_hex(Encoder::new(), &mut digits, bytes);
     text(hns_encoding::first(&digits, e.position));
 }
 

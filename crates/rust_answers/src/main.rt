@@ -13,7 +13,7 @@ fn text(t: &[u8]) {
 
 fn hex(bytes: &[u8]) {
     let mut digits = [0u8; 512];
-    let e = survey_export::put_hex(Encoder::new(), &mut digits, bytes);
+    let e = survey_digits::put_hex(Encoder::new(), &mut digits, bytes);
     text(b" ");
     text(hns_encoding::first(&digits, e.position));
 }

@@ -9,7 +9,8 @@ use borrow.Author.Tests.{ltb-true, ltb-false, le-ltb, lt-ltb}
 use Rattle.hns_encoding.specs.Bytes.{le, leBytes, Bytes, none, byte, choose}
 use Rattle.hns_encoding.proofs.Numbers.{le-leBytes}
 use Rattle.hns_encoding.proofs.Outcomes.{choose-holds}
-use Rattle.survey_export.specs.Text.{digit, hex, space, newline, hexPayload, line}
+use Rattle.survey_digits.specs.Digits.{digit, hex}
+use Rattle.survey_export.specs.Text.{space, newline, hexPayload, line}
 use Rattle.survey_agreement.specs.Agreement.{LineDetermines}
 
 -- ---- digits read back

@@ -8,7 +8,8 @@ use Rattle.hns_encoding.specs.Put.{splice}
 use Rattle.hns_p2p_frame.specs.Frame.{magic, encoding, encodings, same, payloadLength, front}
 use Rattle.hns_p2p_frame.specs.Walk.{onwards, cutUpTo, cut, walkedFor, walk}
 use Rattle.hns_p2p_frame.specs.Push.{settled, admitted, push}
-use Rattle.survey_export.specs.Text.{digit, hex, hexPayload, line, decimalUpTo, decimal, lastLine, heldLine}
+use Rattle.survey_digits.specs.Digits.{digit, hex, decimalUpTo, decimal}
+use Rattle.survey_export.specs.Text.{hexPayload, line, lastLine, heldLine}
 use Rattle.survey_export.specs.Survey.{lines, lastText, addedBy, chunk, text, surveyBy, surveyFrom, survey}
 
 -- a frame of type 1 with no payload, one of type 2 with eight bytes, and two bytes more

@@ -9,7 +9,8 @@ use borrow.Author.Tests.{ltb-true}
 use Rattle.hns_encoding.specs.Format.{All}
 use Rattle.hns_encoding.proofs.Outcomes.{choose-holds}
 use Rattle.hns_p2p_frame.specs.Frame.{Frame, WellFormed}
-use Rattle.survey_export.specs.Text.{digit, hex, newline, line, decimalUpTo, decimal, lastLine, heldLine, stopLine}
+use Rattle.survey_digits.specs.Digits.{digit, hex, decimalUpTo, decimal}
+use Rattle.survey_export.specs.Text.{newline, line, lastLine, heldLine, stopLine}
 use Rattle.survey_export.specs.Survey.{Survey, Last, held, stop, lines, lastText, text, survey}
 use Rattle.survey_agreement.specs.Agreement.{TextDetermines}
 use Rattle.survey_agreement.proofs.Determined.{same-line}

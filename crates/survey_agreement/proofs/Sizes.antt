@@ -18,7 +18,8 @@ use Rattle.hns_p2p_frame.specs.Push.{Result, settled, push}
 use Rattle.hns_p2p_frame.proofs.Fronts.{front-rest}
 use Rattle.hns_p2p_frame.proofs.Walks.{by-front, cut-open, cut-bad, cut-frame}
 use Rattle.hns_p2p_frame.proofs.Tests.{PushTested, over, large, unstored, no-room, fits, tested}
-use Rattle.survey_export.specs.Text.{hex, line, decimalUpTo, decimal, lastLine, heldLine, stopLine}
+use Rattle.survey_digits.specs.Digits.{hex, decimalUpTo, decimal}
+use Rattle.survey_export.specs.Text.{line, lastLine, heldLine, stopLine}
 use Rattle.survey_export.specs.Survey.{chunkSize, lines, Last, held, stop, lastText, Added, goesOn, ends, addedText, delivered, addedBy, Chunk, chunk}
 use Rattle.survey_agreement.proofs.Determined.{payload-length}
 

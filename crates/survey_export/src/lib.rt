@@ -4,15 +4,12 @@ use hns_p2p_frame::NetworkMagic;
 use hns_p2p_frame::Prefix;
 use hns_p2p_frame::Pushed;
 ghost use mathlib.Core.Path.{_≡_};
-ghost use Prim.Native.Nat.{_*_, _≤_};
-ghost use lib.ListN.{length};
-ghost use Rattle.hns_encoding.specs.Bytes.{left};
 ghost use Rattle.hns_encoding.specs.Put.{Put};
 ghost use Rattle.hns_p2p_frame.specs.declared.NetworkMagic.the-variants.{Mainnet};
 ghost use Rattle.hns_p2p_frame.specs.Walk.{cut};
 ghost use Rattle.survey_export.specs.Survey.{lines, goesOnAt, takeChunk};
 ghost use Rattle.survey_export.specs.Helpers.{PushesChunk, Finishes};
-ghost use Rattle.survey_export.specs.Text.{hex, hexPayload, line, decimal, lastLine, heldLine, stopLine};
+ghost use Rattle.survey_export.specs.Text.{hexPayload, line, lastLine, heldLine, stopLine};
 
 // What is to do after a chunk: the first `write` bytes of the text are written out, and the survey goes on with the held
 // count and the place; or they are written out, and it is over.
@@ -39,57 +36,6 @@ const CHUNK: usize = 4_096;
 // A longer text is written out: the lines of the next chunk, at most twice the output, and a last line must still fit.
 const FULL: usize = 65_536 - 2 * 24_576 - 32;
 
-const DIGITS: [u8; 16] = *b"0123456789abcdef";
-
-// Bytes as digits where they fit: plain stores. The table is taken before the loop, which then keeps it at hand.
-fn set_hex(encoder: Encoder, out: &mut [u8], bytes: &[u8]) -> Encoder
-    requires { ⌜ 2 * length (now bytes) ≤ left (now out) (encoder .position) ⌝ }
-    ensures { λ r. ⌜ Put (now (out .entry)) (encoder .position) (hex (now (bytes .entry))) (now (out .exit)) (r .position) ⌝ }
-{
-    let digits = DIGITS;
-    let at = encoder.position;
-    let mut i = 0;
-    while i < bytes.len() {
-        let b = bytes[i];
-        let high = (b / 16) as usize;
-        let low = (b % 16) as usize;
-        let to = at + 2 * i;
-        out[to] = digits[high];
-        out[to + 1] = digits[low];
-        i += 1;
-    }
-    let end = at + 2 * bytes.len();
-    Encoder { position: end }
-}
-
-// Near the text's end, where some may not fit: each digit by a put.
-fn put_hex_cut(encoder: Encoder, out: &mut [u8], bytes: &[u8]) -> Encoder
-    ensures { λ r. ⌜ Put (now (out .entry)) (encoder .position) (hex (now (bytes .entry))) (now (out .exit)) (r .position) ⌝ }
-{
-    let digits = DIGITS;
-    let mut e = encoder;
-    let mut i = 0;
-    while i < bytes.len() {
-        let b = bytes[i];
-        let high = (b / 16) as usize;
-        let low = (b % 16) as usize;
-        e = e.put_u8(out, digits[high]);
-        e = e.put_u8(out, digits[low]);
-        i += 1;
-    }
-    e
-}
-
-// Bytes as digits, by one test of the whole run.
-pub fn put_hex(encoder: Encoder, out: &mut [u8], bytes: &[u8]) -> Encoder
-    ensures { λ r. ⌜ Put (now (out .entry)) (encoder .position) (hex (now (bytes .entry))) (now (out .exit)) (r .position) ⌝ }
-{
-    if hns_encoding::remaining(out, encoder.position) / 2 < bytes.len() {
-        return put_hex_cut(encoder, out, bytes);
-    }
-    set_hex(encoder, out, bytes)
-}
-
 fn put_payload(encoder: Encoder, out: &mut [u8], payload: &[u8]) -> Encoder
     ensures { λ r. ⌜ Put (now (out .entry)) (encoder .position) (hexPayload (now (payload .entry))) (now (out .exit)) (r .position) ⌝ }
 {
@@ -97,7 +43,7 @@ fn put_payload(encoder: Encoder, out: &mut [u8], payload: &[u8]) -> Encoder
         return encoder;
     }
     let e = encoder.put_u8(out, 32);
-    put_hex(e, out, payload)
+    survey_digits::put_hex(e, out, payload)
 }
 
 // The line of a frame.
@@ -109,37 +55,18 @@ pub fn put_line(encoder: Encoder, out: &mut [u8], packet_type: u8, payload: &[u8
     let upper = (n / 65_536 % 256) as u8;
     let lower = (n / 256 % 256) as u8;
     let low = (n % 256) as u8;
-    let e = put_hex(encoder, out, &[packet_type]);
+    let e = survey_digits::put_hex(encoder, out, &[packet_type]);
     let e = e.put_u8(out, 32);
-    let e = put_hex(e, out, &[high, upper, lower, low]);
+    let e = survey_digits::put_hex(e, out, &[high, upper, lower, low]);
     let e = put_payload(e, out, payload);
     e.put_u8(out, 10)
-}
-
-// A number in decimal.
-fn put_decimal(encoder: Encoder, out: &mut [u8], n: u64) -> Encoder
-    ensures { λ r. ⌜ Put (now (out .entry)) (encoder .position) (decimal n) (now (out .exit)) (r .position) ⌝ }
-{
-    let digits = DIGITS;
-    let mut text = [0u8; 20];
-    let mut rest = n;
-    let mut i: usize = 19;
-    while 10 <= rest {
-        let low = (rest % 10) as usize;
-        text[i] = digits[low];
-        rest /= 10;
-        i -= 1;
-    }
-    let first = rest as usize;
-    text[i] = digits[first];
-    encoder.put_bytes(out, &text[i..])
 }
 
 fn put_last(encoder: Encoder, out: &mut [u8], word: &[u8], n: u64) -> Encoder
     ensures { λ r. ⌜ Put (now (out .entry)) (encoder .position) (lastLine (now (word .entry)) n) (now (out .exit)) (r .position) ⌝ }
 {
     let e = encoder.put_bytes(out, word);
-    let e = put_decimal(e, out, n);
+    let e = survey_digits::put_decimal(e, out, n);
     e.put_u8(out, 10)
 }
 

@@ -20,7 +20,7 @@ fn value(n: u64) {
 
 fn hex(bytes: &[u8]) {
     let mut digits = [0u8; 512];
-    let e = survey_export::put_hex(Encoder::new(), &mut digits, bytes);
+    let e = survey_digits::put_hex(Encoder::new(), &mut digits, bytes);
     text(b" ");
     text(hns_encoding::first(&digits, e.position));
 }

@@ -45,7 +45,7 @@ fn signed(n: i64) {
 
 fn hex(bytes: &[u8]) {
     let mut digits = [0u8; 2_000];
-    let e = survey_export::put_hex(Encoder::new(), &mut digits, bytes);
+    let e = survey_digits::put_hex(Encoder::new(), &mut digits, bytes);
     text(b" ");
     text(hns_encoding::first(&digits, e.position));
 }

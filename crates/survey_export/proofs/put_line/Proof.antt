@@ -1,6 +1,6 @@
 -- `survey_export::put_line` meets its contract: five puts, one after the other.
 use borrow.Author.Needs.{needs}
-use Rattle.survey_export.proofs.Digits.{highest-first}
+use Rattle.survey_export.proofs.Parts.{highest-first}
 use Rattle.survey_export.specs.Text.{line}
 use Rattle.hns_encoding.proofs.Puts.{_⨟_}
 use lib.ListN.{length}

@@ -1,7 +1,7 @@
 -- `survey_export::put_payload` meets its contract: nothing for an empty payload, else a space and its digits.
 use borrow.Author.Needs.{needs}
 use Rattle.hns_encoding.proofs.Puts.{put-none}
-use Rattle.survey_export.proofs.Digits.{payload-none, payload-some}
+use Rattle.survey_export.proofs.Parts.{payload-none, payload-some}
 use Rattle.hns_encoding.proofs.Puts.{_⨟_}
 use native.Mathlib.Omega.{arith}
 use Rattle.survey_export.proofs.put_payload.Statement.{statement}

@@ -6,10 +6,10 @@ use lib.ListN.{length, take, getD, set, length-set}
 use lib.Seq.{take-all}
 use Rattle.hns_encoding.specs.Put.{Put}
 use Rattle.hns_encoding.proofs.Puts.{put-none}
-use Rattle.survey_export.specs.Text.{hex}
-use Rattle.survey_export.proofs.Digits.{hex-turn, put-set, table-digit}
-use Rattle.survey_export.proofs.set_hex.Statement.{statement}
-use Rattle.survey_export.proofs.set_hex.Tie as tie
+use Rattle.survey_digits.specs.Digits.{hex}
+use Rattle.survey_digits.proofs.Digits.{hex-turn, put-set, table-digit}
+use Rattle.survey_digits.proofs.set_hex.Statement.{statement}
+use Rattle.survey_digits.proofs.set_hex.Tie as tie
 
 abbrev Inv-loop : tie.InvT-loop
 Inv-loop out₀ bytes digits at i₀ out i =

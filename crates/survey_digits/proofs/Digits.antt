@@ -1,17 +1,16 @@
--- How the loops over digits meet the definitions of the export's text. Assumes nothing.
+-- How the loops over digits meet the definitions. Assumes nothing.
 use Prim.Native.Nat.{ℕ, zero, suc, _+_, _*_, _/_, _%_, _^_, _≤_, _<_}
 use mathlib.Core.Path.{_≡_, refl, sym, ap, _∙_}
-use mathlib.Core.List.{List, [], _∷_, _++_, append-assoc, map, reverse}
+use mathlib.Core.List.{List, [], _∷_, _++_, append-assoc, map}
 use native.Mathlib.Omega.{arith}
 use native.Mathlib.Nat.{pow-suc}
 use native.Mathlib.Numerals.{add-one}
 use lib.ListN.{length, take, drop, getD, set, length-set}
 use lib.Seq.{take-suc, drop-cons, getD-set-same, drop-set-lt}
 use borrow.Author.Tests.{le-ltb, lt-ltb}
-use Rattle.hns_encoding.specs.Bytes.{leBytes}
 use Rattle.hns_encoding.specs.Put.{Put, advance}
 use Rattle.hns_encoding.proofs.Puts.{then, put-length, splice-byte}
-use Rattle.survey_export.specs.Text.{digit, hex, space, hexPayload, decimalUpTo, decimal}
+use Rattle.survey_digits.specs.Digits.{digit, hex, decimalUpTo, decimal}
 
 -- ---- the table of sixteen
 
@@ -87,23 +86,3 @@ pub decimal-end : (i n rest : ℕ) (text : List ℕ) {d : ℕ} → rest < 10 →
 decimal-end i n rest text {d} h l e so-far =
     let last : decimalUpTo (i + 1) rest ≡ d ∷ [] = rw (add-one, e) (decimal-last i rest h) in
     rw (drop-set text i d l) (rw last at so-far)
-
--- ---- the parts of a line
-
-pub payload-none : (s : List ℕ) → length s ≡ 0 → hexPayload s ≡ []
-unfolding hexPayload
-payload-none [] e = refl
-payload-none (b ∷ s) e = absurd (omega arith)
-
-pub payload-some : (s : List ℕ) → (length s ≡ 0 → ⊥) → hexPayload s ≡ space ∷ hex s
-unfolding hexPayload
-payload-some [] ne = absurd (ne refl)
-payload-some (b ∷ s) ne = refl
-
--- four bytes, highest first
-pub highest-first : (n : ℕ) → (n / 16777216 % 256) ∷ (n / 65536 % 256) ∷ (n / 256 % 256) ∷ (n % 256) ∷ [] ≡ reverse (leBytes 4 n)
-unfolding leBytes
-highest-first n =
-    let two : n / 65536 ≡ n / 256 / 256 = omega arith in
-    let three : n / 16777216 ≡ n / 256 / 256 / 256 = omega arith in
-    rw (two, three)

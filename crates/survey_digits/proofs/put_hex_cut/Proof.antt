@@ -5,11 +5,11 @@ use lib.ListN.{length, take, getD}
 use lib.Seq.{take-all}
 use Rattle.hns_encoding.specs.Put.{Put}
 use Rattle.hns_encoding.proofs.Puts.{put-length}
-use Rattle.survey_export.specs.Text.{hex}
+use Rattle.survey_digits.specs.Digits.{hex}
 use Rattle.hns_encoding.proofs.Puts.{put-none}
-use Rattle.survey_export.proofs.Digits.{hex-turn, table-digit}
-use Rattle.survey_export.proofs.put_hex_cut.Statement.{statement}
-use Rattle.survey_export.proofs.put_hex_cut.Tie as tie
+use Rattle.survey_digits.proofs.Digits.{hex-turn, table-digit}
+use Rattle.survey_digits.proofs.put_hex_cut.Statement.{statement}
+use Rattle.survey_digits.proofs.put_hex_cut.Tie as tie
 
 abbrev Inv-loop : tie.InvT-loop
 Inv-loop out₀ bytes digits e₀ i₀ out e i = (i ≤ length bytes) × Put out₀ (e₀ .position) (hex (take i bytes)) out (e .position)

@@ -1,7 +1,7 @@
 use native.Mathlib.Omega.{arith}
 use borrow.Author.Needs.{needs}
-use Rattle.survey_export.proofs.put_hex.Statement.{statement}
-use Rattle.survey_export.proofs.put_hex.Tie as tie
+use Rattle.survey_digits.proofs.put_hex.Statement.{statement}
+use Rattle.survey_digits.proofs.put_hex.Tie as tie
 
 remaining-requires : tie.Need-remaining-requires
 remaining-requires c κs = search needs

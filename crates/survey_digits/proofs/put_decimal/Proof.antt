@@ -7,10 +7,10 @@ use lib.ListN.{length, getD, take, drop, set, length-set, length-drop}
 use lib.Seq.{take-all}
 use borrow.Author.Needs.{needs}
 use Rattle.hns_encoding.proofs.Puts.{put-length}
-use Rattle.survey_export.specs.Text.{decimalUpTo, decimal}
-use Rattle.survey_export.proofs.Digits.{table, table-low, rest-turn, decimal-turn, decimal-end}
-use Rattle.survey_export.proofs.put_decimal.Statement.{statement}
-use Rattle.survey_export.proofs.put_decimal.Tie as tie
+use Rattle.survey_digits.specs.Digits.{decimalUpTo, decimal}
+use Rattle.survey_digits.proofs.Digits.{table, table-low, rest-turn, decimal-turn, decimal-end}
+use Rattle.survey_digits.proofs.put_decimal.Statement.{statement}
+use Rattle.survey_digits.proofs.put_decimal.Tie as tie
 
 abbrev Inv-loop : tie.InvT-loop
 Inv-loop encoder out n digits text₀ rest₀ i₀ text rest i = (i < 20) × ((length text ≡ 20) × ((rest < 10 ^ (i + 1)) × (decimalUpTo (i + 1) rest ++ drop (i + 1) text ≡ decimal n)))
