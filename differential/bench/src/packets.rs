@@ -313,15 +313,7 @@ type Writer<'a> = Box<dyn FnMut(&mut [u8]) -> Result<usize, port::Refusal> + 'a>
 fn writer<'a>(packet: &'a Packet, payload: &'a [u8]) -> Writer<'a> {
     match packet {
         Packet::Version(version) => {
-            let fields = port::VersionFields {
-                version: version.version,
-                services: version.services,
-                time: version.time,
-                remote: fields(&version.remote),
-                nonce: u64::from_le_bytes(version.nonce),
-                height: version.height,
-                no_relay: version.no_relay,
-            };
+            let fields = version_fields(version);
             Box::new(move |out| port::write_version(&fields, version.agent.as_bytes(), out))
         }
         Packet::Reject(reject) => Box::new(|out| {
@@ -355,6 +347,18 @@ fn writer<'a>(packet: &'a Packet, payload: &'a [u8]) -> Writer<'a> {
             Box::new(move |out| port::write_getblocktxn(&hash, &indexes, out))
         }
         _ => unreachable!("no sample of it"),
+    }
+}
+
+fn version_fields(version: &VersionPacket) -> port::VersionFields {
+    port::VersionFields {
+        version: version.version,
+        services: version.services,
+        time: version.time,
+        remote: fields(&version.remote),
+        nonce: u64::from_le_bytes(version.nonce),
+        height: version.height,
+        no_relay: version.no_relay,
     }
 }
 

@@ -95,20 +95,54 @@ pub fn cuts(longest: usize, run: &mut impl FnMut(&Case)) {
     }
 }
 
+/// A payload of a type by every question about packets.
+fn ask_all(packet_type: u8, bytes: &[u8], run: &mut impl FnMut(&Case)) {
+    let room = bytes.len() as u64;
+    let kinds = [(Kind::Rewrite, room), (Kind::Packet, 255), (Kind::Item, 0)];
+    let owned = [(Kind::OwnedPacket, 0), (Kind::OwnedFrame, 0)];
+    for (kind, second) in kinds.into_iter().chain(owned) {
+        let numbers = [u64::from(packet_type), second];
+        run(&Case::new(kind, bytes.to_vec(), &numbers));
+    }
+}
+
+/// Lists of every type that has one: every first byte of the count with every length of what follows,
+/// up to a byte over two items and what stands after them.
+pub fn counts(short: bool, run: &mut impl FnMut(&Case)) {
+    let lists = [
+        (5, 88, 0),
+        (6, 36, 0),
+        (7, 36, 0),
+        (8, 36, 0),
+        (9, 32, 32),
+        (10, 32, 32),
+    ];
+    let lists = lists.into_iter().chain([(11, 236, 0), (24, 3, 0)]);
+    let mut rng = Rng::new(3);
+    for (packet_type, width, after) in lists {
+        let front = if packet_type == 24 { 32 } else { 0 };
+        let longest = if short {
+            width + after + 1
+        } else {
+            2 * width + after + 1
+        };
+        let bytes = rng.bytes(front + 1 + longest);
+        for count in 0..=255 {
+            for length in 0..=longest {
+                let mut payload = bytes[..front + 1 + length].to_vec();
+                payload[front] = count;
+                ask_all(packet_type, &payload, run);
+            }
+        }
+    }
+}
+
 /// All payloads of up to two bytes of every type (in the short run of the types with fields); all
 /// cuts of one payload of each type, and all of its changes in one byte.
 pub fn payloads(short: bool, run: &mut impl FnMut(&Case)) {
     let mut rng = Rng::new(2);
     for packet_type in 0..=255_u8 {
-        let mut ask = |bytes: Vec<u8>| {
-            let room = bytes.len() as u64;
-            let kinds = [(Kind::Rewrite, room), (Kind::Packet, 255), (Kind::Item, 0)];
-            let owned = [(Kind::OwnedPacket, 0), (Kind::OwnedFrame, 0)];
-            for (kind, second) in kinds.into_iter().chain(owned) {
-                let numbers = [u64::from(packet_type), second];
-                run(&Case::new(kind, bytes.clone(), &numbers));
-            }
-        };
+        let mut ask = |bytes: Vec<u8>| ask_all(packet_type, &bytes, run);
         ask(Vec::new());
         for a in 0..=255 {
             ask(vec![a]);

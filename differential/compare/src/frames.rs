@@ -55,28 +55,33 @@ pub fn encode(case: &Case) -> Verdict {
     Verdict::of(&out, &expected)
 }
 
-/// A row in fewer than six numbers is the front of the whole row, and no other number changes.
+/// A row that does not fit is the front of the whole row, and no other number changes: of a frame, of
+/// six numbers, and of a packet, of sixteen.
 pub fn row(case: &Case) -> Verdict {
-    let call = |answer: &mut [u64]| {
-        let input = case.bytes.as_ptr();
-        // SAFETY: the pointers and counts are those of slices, and they do not overlap.
-        unsafe {
-            ffi::hns_decode_frame_prefix(
-                case.network as u8,
-                input,
-                case.bytes.len(),
-                answer.as_mut_ptr(),
-                answer.len(),
-            );
-        }
-    };
-    let room = (case.number(0) % 9) as usize;
-    let mut whole = [u64::MAX; 6];
-    call(&mut whole);
-    let mut numbers = [u64::MAX; 8];
-    call(&mut numbers[..room]);
-    let mut expected = [u64::MAX; 8];
-    let n = room.min(6);
+    let (input, len) = (case.bytes.as_ptr(), case.bytes.len());
+    let room = case.number(0) as usize;
+    let network = case.network as u8;
+    // SAFETY: the pointers and counts are those of slices, and they do not overlap.
+    let frame = cut::<6>(room % 9, |answer, n| unsafe {
+        ffi::hns_decode_frame_prefix(network, input, len, answer, n);
+    });
+    let packet_type = case.bytes.get(4).copied().unwrap_or(0);
+    let mut text = [0; 255];
+    let to = text.as_mut_ptr();
+    // SAFETY: as above.
+    let packet = cut::<16>(room % 19, |answer, n| unsafe {
+        ffi::hns_read_packet(packet_type, input, len, to, 255, answer, n);
+    });
+    if frame.differs() { frame } else { packet }
+}
+
+fn cut<const N: usize>(room: usize, mut call: impl FnMut(*mut u64, usize)) -> Verdict {
+    let mut whole = [u64::MAX; N];
+    call(whole.as_mut_ptr(), N);
+    let mut numbers = [u64::MAX; 18];
+    call(numbers.as_mut_ptr(), room);
+    let mut expected = [u64::MAX; 18];
+    let n = room.min(N);
     expected[..n].copy_from_slice(&whole[..n]);
     Verdict::of(&numbers, &expected)
 }

@@ -283,7 +283,7 @@ fn front(rng: &mut Rng, kind: Kind) -> Case {
         }
         _ => {}
     }
-    let room = rng.below(9);
+    let room = rng.below(171);
     Case::new(kind, bytes, &[room]).on(network)
 }
 

@@ -70,6 +70,7 @@ fn run_all(options: &Options, run: &mut Run) {
     let longest = if options.short { 10 } else { 16 };
     exhaustive::cuts(longest, &mut |case| run.case(case));
     exhaustive::payloads(options.short, &mut |case| run.case(case));
+    exhaustive::counts(options.short, &mut |case| run.case(case));
     run.part("limits");
     let networks = if options.short { 1 } else { 4 };
     limits::all(&mut rng, networks, &mut |case| run.case(case));

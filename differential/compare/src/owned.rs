@@ -152,6 +152,13 @@ fn encoded(packet: &Packet) -> Verdict {
     Verdict::of(&owned(packet).encode_payload(), &rust)
 }
 
+/// An address from its bytes. The Rust has one error for another length, where the port has 1 or 3.
+fn address_of(bytes: &[u8], refused: Option<u64>) -> Verdict {
+    let port = hns_port::NetAddress::decode(bytes).map_err(|refusal| Some(refusal.number));
+    let rust = NetAddress::decode(bytes).map_err(|_| refused);
+    Verdict::of(&port, &rust.as_ref().map(address).map_err(|number| *number))
+}
+
 /// A few addresses by themselves: bytes, read again, and sockets.
 fn addresses(packet: &Packet) -> Verdict {
     let items = match packet {
@@ -161,11 +168,11 @@ fn addresses(packet: &Packet) -> Verdict {
     };
     all(items.iter().map(|item| {
         let rust = wire::address(item);
-        let read = |bytes: &[u8]| hns_port::NetAddress::decode(bytes).ok();
-        let again = |bytes: &[u8]| NetAddress::decode(bytes).ok().as_ref().map(address);
+        let longer = [&rust.0[..], &[0]].concat();
         all([
-            Verdict::of(&read(&rust.0), &again(&rust.0)),
-            Verdict::of(&read(&rust.0[1..]), &again(&rust.0[1..])),
+            address_of(&rust.0, None),
+            address_of(&rust.0[1..], Some(1)),
+            address_of(&longer, Some(3)),
             Verdict::of(&port::address(&address(item)), &rust),
         ])
     }))

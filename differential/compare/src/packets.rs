@@ -1,7 +1,8 @@
 //! Packets: read, item by item, searched, and written again.
 
 use hns_p2p_wire::{
-    Inventory, NetAddress, Packet, PacketType, RejectPacket, VersionPacket, WireError,
+    Inventory, LocatorPacket, NetAddress, Packet, PacketType, RejectPacket, VersionPacket,
+    WireError,
 };
 use hns_port::{PacketRow, Refusal};
 
@@ -19,8 +20,8 @@ fn packet_type(case: &Case) -> u8 {
     case.number(0) as u8
 }
 
-/// The field code of a count that is over its limit, by the Rust's name for it.
-fn field(context: &str) -> u64 {
+/// The field code of a limit or a text, by the Rust's name for it.
+pub fn field(context: &str) -> u64 {
     match context {
         "address" => 1,
         "inventory" => 2,
@@ -28,6 +29,8 @@ fn field(context: &str) -> u64 {
         "header" => 4,
         "compact-block requested indexes" => 5,
         "compact-block requested index" => 6,
+        "version user agent" => 7,
+        "reject reason" => 8,
         other => panic!("no field code for {other}"),
     }
 }
@@ -60,17 +63,12 @@ pub fn read(case: &Case) -> Verdict {
     }
     let mut text = filled(case.number(1) as usize);
     let mut expected = text.clone();
-    let port = hns_port::read_packet(kind, &case.bytes, &mut text).map(|row| {
-        let indexes = match kind {
-            24 => port_indexes(&case.bytes, row[1] as usize),
-            _ => vec![],
-        };
-        (port_seen(kind, &case.bytes, &row), indexes)
-    });
+    let port = hns_port::read_packet(kind, &case.bytes, &mut text)
+        .map(|row| port_seen(kind, &case.bytes, &row));
     let rust = decode(kind, &case.bytes).and_then(|packet| {
         let put = rust::fits(words(&packet).into(), expected.len())?;
         splice(&mut expected, 0, &put);
-        Ok((rust_seen(&packet), indexes(&packet)))
+        Ok(rust_seen(&packet))
     });
     let answers = Verdict::of(&port, &rust);
     if answers.differs() || text == expected {
@@ -120,14 +118,6 @@ fn masked(bytes: &[u8]) -> Vec<u8> {
     bytes.iter().map(|byte| byte & 127).collect()
 }
 
-/// All indexes, stored by one call into room for them and one more.
-fn port_indexes(payload: &[u8], count: usize) -> Vec<u64> {
-    let mut out = vec![u64::MAX; count + 1];
-    let stored = hns_port::indexes(payload, &mut out);
-    assert_eq!((stored, out.pop()), (Ok(count), Some(u64::MAX)));
-    out
-}
-
 /// The indexes of a getblocktxn; no other packet has any.
 pub fn indexes(packet: &Packet) -> Vec<u64> {
     match packet {
@@ -148,17 +138,7 @@ pub fn rust_seen(packet: &Packet) -> Seen {
             vec![items.len() as u64],
             vec![items.iter().flat_map(inventory).collect()],
         ),
-        Packet::GetBlocks(packet) | Packet::GetHeaders(packet) => {
-            let hashes = packet
-                .locator
-                .iter()
-                .flat_map(|hash| *hash.as_bytes())
-                .collect();
-            (
-                vec![packet.locator.len() as u64],
-                vec![hashes, packet.stop.as_bytes().to_vec()],
-            )
-        }
+        Packet::GetBlocks(packet) | Packet::GetHeaders(packet) => locator_seen(packet),
         Packet::Headers(headers) => {
             let bytes = headers.iter().flat_map(|header| header.encode()).collect();
             (vec![headers.len() as u64], vec![bytes])
@@ -168,18 +148,13 @@ pub fn rust_seen(packet: &Packet) -> Seen {
         Packet::SendCmpct { mode, version } => (vec![u64::from(*mode), *version], vec![]),
         Packet::GetBlockTxn(request) => {
             let count = request.indexes.len();
-            (
-                vec![count as u64, 32 + compact_length(count)],
-                vec![request.block_hash.as_bytes().to_vec()],
-            )
+            let numbers = vec![count as u64, 32 + compact_length(count)];
+            (numbers, vec![request.block_hash.as_bytes().to_vec()])
         }
-        Packet::GetProof(proof) => (
-            vec![],
-            vec![
-                proof.root.as_bytes().to_vec(),
-                proof.key.as_bytes().to_vec(),
-            ],
-        ),
+        Packet::GetProof(proof) => {
+            let hashes = [proof.root.as_bytes(), proof.key.as_bytes()];
+            (vec![], hashes.map(|hash| hash.to_vec()).to_vec())
+        }
         Packet::FilterLoad(bytes)
         | Packet::FilterAdd(bytes)
         | Packet::MerkleBlock(bytes)
@@ -188,6 +163,12 @@ pub fn rust_seen(packet: &Packet) -> Seen {
         | Packet::Unknown { payload: bytes, .. } => (vec![], vec![bytes.clone()]),
         _ => (vec![], vec![]),
     }
+}
+
+fn locator_seen(packet: &LocatorPacket) -> Seen {
+    let hashes = packet.locator.iter().flat_map(|hash| *hash.as_bytes());
+    let bytes = vec![hashes.collect(), packet.stop.as_bytes().to_vec()];
+    (vec![packet.locator.len() as u64], bytes)
 }
 
 fn compact_length(count: usize) -> u64 {
@@ -250,8 +231,14 @@ pub fn item(case: &Case) -> Verdict {
     if answers.differs() {
         return answers;
     }
-    let items = packet.map(|packet| numbered(kind, packet));
-    all_items(kind, &case.bytes, items, case.number(2) == 1)
+    let short = case.number(2) == 1;
+    match kind {
+        24 => all_indexes(&case.bytes, packet.map(indexes), short),
+        _ => {
+            let items = packet.map(|packet| numbered(kind, packet));
+            all_items(kind, &case.bytes, items, short)
+        }
+    }
 }
 
 /// The items that have numbers.
@@ -260,30 +247,54 @@ fn numbered(kind: u8, packet: &Packet) -> Vec<Seen> {
     items.take_while(|_| matches!(kind, 5..=8)).collect()
 }
 
-/// The numbers of all items by one call, into room for them and one more, or one short of them: of each
-/// item so many, the last of which is a place of so many bytes.
+/// The numbers of all items by one call: of each item so many, the last of which is a place of so many
+/// bytes.
 fn all_items(kind: u8, payload: &[u8], items: Result<Vec<Seen>, Refusal>, short: bool) -> Verdict {
     let (each, width) = if kind == 5 { (6, 33) } else { (2, 32) };
     let needed = items.as_ref().map_or(0, |items| items.len() * each);
-    let room = if short {
-        needed.saturating_sub(1)
-    } else {
-        needed + 1
-    };
-    let mut out = vec![u64::MAX; room];
-    let answer = hns_port::item_numbers(kind, payload, &mut out);
-    let rest = out.split_off(answer.map_or(0, |count| count.min(room)));
+    let call = |out: &mut [u64]| hns_port::item_numbers(kind, payload, out);
+    let (numbers, left_alone) = stored(call, needed, short);
     let seen = |item: &[u64]| {
         let bytes = payload[item[each - 1] as usize..][..width].to_vec();
         (item[..each - 1].to_vec(), vec![bytes])
     };
-    let port = answer.map(|_| out.chunks(each).map(seen).collect());
-    let rust = items.and_then(|items| match room < needed {
-        true => Err(rust::refusal(16, needed as u64, 0)),
-        false => Ok(items),
-    });
-    let left_alone = rest.iter().all(|number| *number == u64::MAX);
+    let port = numbers.map(|numbers| numbers.chunks(each).map(seen).collect());
+    let rust = items.and_then(|items| room_for(needed, short).map(|_| items));
     Verdict::of(&(port, left_alone), &(rust, true))
+}
+
+/// All indexes by one call.
+fn all_indexes(payload: &[u8], indexes: Result<Vec<u64>, Refusal>, short: bool) -> Verdict {
+    let needed = indexes.as_ref().map_or(0, Vec::len);
+    let port = stored(|out| hns_port::indexes(payload, out), needed, short);
+    let rust = indexes.and_then(|indexes| room_for(needed, short).map(|_| indexes));
+    Verdict::of(&port, &(rust, true))
+}
+
+/// One place more than is needed, or 16 where it is one short.
+fn room_for(needed: usize, short: bool) -> Result<usize, Refusal> {
+    if short && needed > 0 {
+        return Err(rust::refusal(16, needed as u64, 0));
+    }
+    Ok(needed + 1)
+}
+
+/// The numbers that a call stores into such a room, and whether all others are left alone.
+fn stored(
+    call: impl FnOnce(&mut [u64]) -> Result<usize, Refusal>,
+    needed: usize,
+    short: bool,
+) -> (Result<Vec<u64>, Refusal>, bool) {
+    let room = if short && needed > 0 {
+        needed - 1
+    } else {
+        needed + 1
+    };
+    let mut out = vec![u64::MAX; room];
+    let answer = call(&mut out);
+    let rest = out.split_off(answer.map_or(0, |count| count.min(room)));
+    let left_alone = rest.iter().all(|number| *number == u64::MAX);
+    (answer.map(|_| out), left_alone)
 }
 
 fn port_item(kind: u8, payload: &[u8], row: &PacketRow) -> Seen {
@@ -346,9 +357,10 @@ pub fn find(case: &Case) -> Verdict {
     hash[31] ^= (case.number(2) % 2) as u8;
     let port = hns_port::find(kind, &case.bytes, &hash);
     let rust = packet.as_ref().map_err(|refusal| *refusal);
-    let rust = rust.map(|_| items.iter().any(|item| item.hash == hash));
+    let rust = rust.map(|_| items.iter().any(|item| item.hash == hash).then_some(true));
     let stands = |place: usize| items.get(place).is_some_and(|item| item.hash == hash);
-    let port = port.map(|place| place.is_some_and(stands));
+    // Where it stands nowhere a place is wrong, and where it stands somewhere another place is.
+    let port = port.map(|place| place.map(stands));
     Verdict::of(&port, &rust)
 }
 

@@ -298,40 +298,19 @@ fn write_version(version: &VersionPacket, out: &mut [u8]) -> Result<usize, Refus
 
 // ---- the Rust's errors
 
-/// The field code by the Rust's name of what is refused.
-fn field(context: &str) -> u64 {
-    match context {
-        "address" => 1,
-        "inventory" => 2,
-        "locator" => 3,
-        "header" => 4,
-        "version user agent" => 7,
-        "reject reason" => 8,
-        other => panic!("no field code for {other}"),
-    }
-}
-
 /// The Rust says which index list is refused by a text, and not where: the place is looked for here.
 pub fn refused(packet: &Packet, error: WireError) -> Refusal {
     match error {
-        WireError::CountTooLarge {
-            context,
-            actual,
-            maximum,
-        } => Refusal {
-            c: field(context),
-            ..rust::refusal(7, actual as u64, maximum as u64)
-        },
         WireError::InvalidPacket {
             context: "reject packet",
             ..
         } => rust::refusal(11, 0, 0),
         WireError::InvalidPacket { context, .. } => Refusal {
-            c: field(context),
+            c: packets::field(context),
             ..rust::refusal(10, 0, 0)
         },
         WireError::CompactBlock(CompactBlockError::Malformed(text)) => list_refused(packet, &text),
-        other => rust::wire_error(other),
+        other => packets::packet_error(other),
     }
 }
 

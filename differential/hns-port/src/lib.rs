@@ -58,6 +58,7 @@ pub use types::*;
 pub const LIBRARIES: &str = env!("HNS_FFI_LIBRARIES");
 
 /// An answer of the library: six numbers.
+#[repr(transparent)]
 struct Row([u64; 6]);
 
 impl Row {
