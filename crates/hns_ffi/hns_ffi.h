@@ -147,12 +147,13 @@ void hns_read_packet(uint8_t packet_type, const uint8_t *payload, size_t payload
 /* The item at a place of a list, from 0 on. */
 void hns_item(uint8_t packet_type, const uint8_t *payload, size_t payload_len, size_t place,
               uint64_t *answer, size_t answer_len);
-/* All indexes of a getblocktxn payload; 16 counts the numbers that `out` must have. */
+/* All indexes of a getblocktxn payload. The payload's own refusal comes first, then 16, which counts the
+ * numbers that `out` must have; a refusal leaves `out` alone. */
 void hns_indexes(const uint8_t *payload, size_t payload_len, uint64_t *out, size_t out_len,
                  uint64_t *answer, size_t answer_len);
 /* The numbers of all addresses or inventory items side by side, as in the rows of hns_item: six numbers
- * or two for each, and none for other types. Answers how many numbers; 16 counts those that `out` must
- * have. A call for each item costs more than the item, so this is for whole lists. */
+ * or two for each, and none for other types. Answers how many numbers; refused as hns_indexes is. A call
+ * for each item costs more than the item, so this is for whole lists. */
 void hns_item_numbers(uint8_t packet_type, const uint8_t *payload, size_t payload_len,
                       uint64_t *out, size_t out_len, uint64_t *answer, size_t answer_len);
 /* A place where a hash of 32 bytes stands among the inventory items. */

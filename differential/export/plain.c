@@ -10,7 +10,7 @@
 enum { CHUNK = 4096, ROOM = 24576, TEXT = 65536, HEADER = 9, LAST = 32, MAX_PAYLOAD = 8000000 };
 
 static const uint8_t MAGIC[4] = {0xd3, 0xf2, 0x6e, 0x5b};
-static uint8_t store[ROOM];
+static uint8_t store[ROOM + CHUNK]; /* a chunk is read behind what is held, and refused where both pass ROOM */
 static char text[TEXT];
 
 static size_t fill(uint8_t *to)
@@ -86,15 +86,13 @@ int main(void)
     char *to = text;
     int stop = 0;
     do {
-        uint8_t chunk[CHUNK];
         char *begun = to;
         size_t used;
-        n = fill(chunk);
+        n = fill(store + held);
         if (n > ROOM - held) {
             stop = 17;
             break;
         }
-        memcpy(store + held, chunk, n);
         held += n;
         stop = put_lines(held, &used, &to);
         if (stop != 0) { /* a refused push delivers nothing */

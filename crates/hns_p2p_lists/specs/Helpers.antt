@@ -1,12 +1,10 @@
 -- What the contracts of private functions say: a count and as many items of fixed size, as one block, and the packets of formats that several types share. No public contract cites this file.
-use Prim.Native.Nat.{ℕ, zero, suc, _+_, _-_, _*_, _/_, _%_, _≤_, _<_}
-use mathlib.Core.Path.{_≡_}
+use Prim.Native.Nat.{ℕ, _+_, _*_, _/_, _%_}
 use mathlib.Core.List.{List}
-use lib.ListN.{length, getD}
 use lib.Dec.{leb, eqb}
 use Rattle.hns_encoding.specs.Bytes.{choose, left, Outcome, got, stop, after, bytesAt, endAt, toEnd}
 use Rattle.hns_encoding.specs.Compact.{countAt}
-use Rattle.hns_encoding.specs.Format.{sum, short, read, indexesFrom}
+use Rattle.hns_encoding.specs.Format.{sum, short, read}
 use Rattle.hns_p2p_types.specs.declared.Items.{Items}
 use Rattle.hns_p2p_types.specs.declared.LocatorPacket.{LocatorPacket}
 use Rattle.hns_p2p_types.specs.declared.Packet.{Packet}

@@ -14,10 +14,8 @@ use hns_p2p_types::NET_ADDRESS_SIZE;
 use hns_p2p_types::Packet;
 use hns_refusals::Refusal;
 ghost use mathlib.Core.Path.{_≡_};
-ghost use Prim.Native.Nat.{_+_, _-_, _*_, _≤_, _<_, _^_};
-ghost use lib.ListN.{length};
-ghost use Rattle.hns_refusals.specs.Limits.{maxIndex};
-ghost use Rattle.hns_encoding.specs.Format.{sum, indexesFrom};
+ghost use Prim.Native.Nat.{_*_, _<_, _^_};
+ghost use Rattle.hns_encoding.specs.Format.{sum};
 ghost use Rattle.hns_p2p_types.specs.Packets.{fieldsOf};
 ghost use Rattle.hns_p2p_lists.specs.Helpers.{listKind, locatorKind, inventoryOf, locatorOf, listAt, countedOf, listPacket, stopPacket};
 

@@ -1,5 +1,5 @@
 // The published Rust's answers, asked of the port: a line of standard input is a case in hexadecimal, and the file
-// stdout has what the Rust answered. differential/answers makes both.
+// stdout has what the Rust answered. `differential/run --answers` makes both.
 //
 // A case is its kind, a network, three numbers of eight bytes, and its bytes.
 use hns_encoder::Encoder;

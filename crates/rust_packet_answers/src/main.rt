@@ -1,5 +1,5 @@
 // The published Rust's answers about packets that are read, asked of the port: a line of standard input is a case in
-// hexadecimal, and the file stdout has what the Rust answered. differential/answers makes both.
+// hexadecimal, and the file stdout has what the Rust answered. `differential/run --answers` makes both.
 //
 // A case is its kind, a packet type, three numbers of eight bytes, and its bytes. The first number is the length of the
 // lent output, or the place of an item. The others say which zeros the bytes leave out: after how many bytes they stand,
@@ -169,6 +169,24 @@ fn ask_indexes(payload: &[u8]) {
     case_lines::five(out[0], out[1], out[2], out[3], out[4]);
 }
 
+// All numbers of items, and those that were lent for them.
+fn ask_numbers(packet_type: u8, payload: &[u8]) {
+    let mut row = [0u64; 16];
+    let mut out = [170u64; 10];
+    hns_ffi_packets::hns_item_numbers(packet_type, payload, &mut out, &mut row);
+    case_lines::count(row);
+    case_lines::five(out[0], out[1], out[2], out[3], out[4]);
+    case_lines::five(out[5], out[6], out[7], out[8], out[9]);
+}
+
+fn ask_all(packet_type: u8, payload: &[u8]) {
+    if packet_type == 24 {
+        ask_indexes(payload);
+    } else {
+        ask_numbers(packet_type, payload);
+    }
+}
+
 // What stands at the place that the finder answers: document 01 leaves open which place it is.
 fn show_found(packet_type: u8, payload: &[u8], place: u64) {
     let mut row = [0u64; 16];
@@ -202,7 +220,7 @@ fn ask(kind: u8, packet_type: u8, n: usize, bytes: &[u8]) {
     match kind {
         24 => lend(packet_type, n, bytes),
         25 => ask_item(packet_type, bytes, n),
-        26 => ask_indexes(bytes),
+        26 => ask_all(packet_type, bytes),
         _ => ask_find(packet_type, after(bytes, 32), bytes),
     }
 }

@@ -1,5 +1,5 @@
 // The published Rust's answers about packets that are written, asked of the port: a line of standard input is a case in
-// hexadecimal, and the file stdout has what the Rust answered. differential/answers makes both.
+// hexadecimal, and the file stdout has what the Rust answered. `differential/run --answers` makes both.
 //
 // A case is its kind, a packet type, three numbers of eight bytes, and its bytes: a payload to write again, or what the
 // type's writer is given, arguments of a fixed size first. The first number is the output's length. The others say which

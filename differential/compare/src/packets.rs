@@ -126,6 +126,25 @@ pub fn indexes(packet: &Packet) -> Vec<u64> {
     }
 }
 
+/// The numbers of all addresses or inventory items, with the places where key and hash stand; no other
+/// packet has any.
+pub fn item_numbers(packet: &Packet) -> Vec<u64> {
+    let at = |k: usize, n: usize, width: usize| compact_length(n) + (k * width) as u64;
+    match packet {
+        Packet::Addr(items) => {
+            let key = |k: usize| at(k, items.len(), 88) + 55;
+            let numbers = |(k, item)| [address_numbers(item), vec![key(k)]].concat();
+            items.iter().enumerate().flat_map(numbers).collect()
+        }
+        Packet::Inv(items) | Packet::GetData(items) | Packet::NotFound(items) => {
+            let hash = |k: usize| at(k, items.len(), 36) + 4;
+            let numbers = |(k, item): (usize, &Inventory)| [item.kind.as_u32().into(), hash(k)];
+            items.iter().enumerate().flat_map(numbers).collect()
+        }
+        _ => vec![],
+    }
+}
+
 pub fn rust_seen(packet: &Packet) -> Seen {
     match packet {
         Packet::Version(version) => version_seen(version),

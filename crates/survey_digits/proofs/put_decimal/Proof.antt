@@ -1,4 +1,4 @@
--- `survey_export::put_decimal` meets its contract: the digits of what is left and those in the text are those of the number.
+-- `put_decimal` meets its contract: the digits of what is left and those in the text are those of the number.
 use Prim.Native.Nat.{_+_, _-_, _/_, _^_, _<_}
 use mathlib.Core.Path.{_≡_, refl, _∙_}
 use mathlib.Core.List.{_++_, append-nil}

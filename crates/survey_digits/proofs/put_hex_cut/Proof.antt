@@ -1,4 +1,4 @@
--- `survey_export::put_hex_cut` meets its contract: a turn puts the two digits of one byte more.
+-- `put_hex_cut` meets its contract: a turn puts the two digits of one byte more.
 use Prim.Native.Nat.{_≤_, _<_, _-_}
 use native.Mathlib.Omega.{arith}
 use lib.ListN.{length, take, getD}

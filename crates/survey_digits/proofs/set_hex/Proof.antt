@@ -1,4 +1,4 @@
--- `survey_export::set_hex` meets its contract: a turn stores the two digits of one byte more.
+-- `set_hex` meets its contract: a turn stores the two digits of one byte more.
 use Prim.Native.Nat.{_+_, _*_, _-_, _≤_, _<_}
 use mathlib.Core.Path.{_≡_, refl, _∙_}
 use native.Mathlib.Omega.{arith}

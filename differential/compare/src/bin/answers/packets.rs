@@ -5,7 +5,9 @@
 
 use std::slice::from_ref;
 
-use compare::packets::{Seen, again, decode, indexes, inventories, rust_item, rust_seen, words};
+use compare::packets::{
+    Seen, again, decode, indexes, inventories, item_numbers, rust_item, rust_seen, words,
+};
 use compare::rust;
 use hns_port::Refusal;
 
@@ -14,11 +16,11 @@ use crate::payloads;
 
 pub const PACKET: u8 = 24;
 const ITEM: u8 = 25;
-const INDEXES: u8 = 26;
+const AT_ONCE: u8 = 26;
 const FIND: u8 = 27;
 pub const REWRITE: u8 = 28;
 
-/// So many numbers are lent for indexes, each with this value.
+/// So many numbers are lent for indexes, and twice as many for others, each with this value.
 const PLACES: usize = 5;
 const UNSET: u64 = 170;
 /// So many bytes are shown.
@@ -68,20 +70,26 @@ impl List {
         self.ask(ITEM, packet_type, place as u64, payload, &told(&seen));
     }
 
-    /// All indexes, and the numbers that were lent for them.
-    fn indexes(&mut self, payload: &[u8]) {
-        let mut out = [UNSET; PLACES];
-        let seen = decode(24, payload).and_then(|packet| {
-            let list = indexes(&packet);
-            if PLACES < list.len() {
+    /// All items by one call: indexes of a getblocktxn, numbers of others; and the numbers that were
+    /// lent for them.
+    fn at_once(&mut self, packet_type: u8, payload: &[u8]) {
+        let lent = if packet_type == 24 {
+            PLACES
+        } else {
+            2 * PLACES
+        };
+        let mut out = vec![UNSET; lent];
+        let seen = decode(packet_type, payload).and_then(|packet| {
+            let list = [indexes(&packet), item_numbers(&packet)].concat();
+            if lent < list.len() {
                 return Err(rust::refusal(16, list.len() as u64, 0));
             }
             out[..list.len()].copy_from_slice(&list);
             Ok((vec![list.len() as u64], vec![]))
         });
-        let out = out.map(|index| index.to_string()).join(" ");
-        let answer = format!("{} {out}", told(&seen));
-        self.ask(INDEXES, 24, 0, payload, &answer);
+        let out: Vec<String> = out.iter().map(u64::to_string).collect();
+        let answer = format!("{} {}", told(&seen), out.join(" "));
+        self.ask(AT_ONCE, packet_type, 0, payload, &answer);
     }
 
     /// Whether a hash is found, and what then stands at the place.
@@ -120,9 +128,7 @@ impl List {
         for place in places.chain([usize::MAX]) {
             self.item(packet_type, payload, place);
         }
-        if packet_type == 24 {
-            self.indexes(payload);
-        }
+        self.at_once(packet_type, payload);
         for place in 0..inventories(&packet).len() {
             self.find(packet_type, payload, &inventories(&packet)[place].hash);
         }
@@ -149,9 +155,7 @@ impl List {
         self.item(packet_type, payload, 0);
         self.rewrite(packet_type, payload, 2);
         self.find(packet_type, payload, &[7; 32]);
-        if packet_type == 24 {
-            self.indexes(payload);
-        }
+        self.at_once(packet_type, payload);
     }
 
     /// A list of so many items, at its limit or one over it.
@@ -161,15 +165,12 @@ impl List {
         for place in [0, count - 1, count] {
             self.item(packet_type, payload, place);
         }
-        match packet_type {
-            6..=8 => {
-                let (first, last) = (&payload[7..39], &payload[payload.len() - 32..]);
-                for hash in [first, last, &[0; 32], &[7; 32]] {
-                    self.find(packet_type, payload, hash);
-                }
+        self.at_once(packet_type, payload);
+        if let 6..=8 = packet_type {
+            let (first, last) = (&payload[7..39], &payload[payload.len() - 32..]);
+            for hash in [first, last, &[0; 32], &[7; 32]] {
+                self.find(packet_type, payload, hash);
             }
-            24 => self.indexes(payload),
-            _ => {}
         }
     }
 
