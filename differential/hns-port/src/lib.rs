@@ -11,9 +11,9 @@
 //! # Ok::<(), hns_port::Refusal>(())
 //! ```
 //!
-//! What is read, refused or written is decided by the proved code: a decode is one call of it (and a
-//! second for addresses and indexes, which are no bytes of the payload), and copies of the bytes at the
-//! places that it answers. What differs from the Rust:
+//! What is read, refused or written is decided by the proved code: a decode is one call of it (a second
+//! for addresses and indexes, which are no bytes of the payload, and one for each header), and copies of
+//! the bytes at the places that it answers. What differs from the Rust:
 //!
 //! - a [`Refusal`] is a number and its values; `WireError` is another name for it;
 //! - hashes and roots are `[u8; 32]`, a header's numbers are plain;
