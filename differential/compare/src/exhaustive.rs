@@ -2,6 +2,7 @@
 
 use crate::case::{Case, Kind, NETWORKS};
 use crate::generate;
+use crate::packets;
 use crate::rng::Rng;
 
 /// All bytes up to three as a compact size; of three, those that begin with `first` or more, with
@@ -137,6 +138,16 @@ pub fn counts(short: bool, run: &mut impl FnMut(&Case)) {
     }
 }
 
+/// A payload that reads, of at most three headers and so short enough for all its changes.
+fn short_payload(rng: &mut Rng, packet_type: u8) -> Vec<u8> {
+    let mut payloads = std::iter::repeat_with(|| generate::payload(rng, packet_type));
+    let reads = |payload: &Vec<u8>| {
+        let carried = packets::CARRIED.contains(&packet_type);
+        payload.len() <= 710 && (carried || packets::decode(packet_type, payload).is_ok())
+    };
+    payloads.find(reads).expect("most are short and read")
+}
+
 /// All payloads of up to two bytes of every type (in the short run of the types with fields); all
 /// cuts of one payload of each type, and all of its changes in one byte.
 pub fn payloads(short: bool, run: &mut impl FnMut(&Case)) {
@@ -151,11 +162,11 @@ pub fn payloads(short: bool, run: &mut impl FnMut(&Case)) {
                 ask(vec![a, b]);
             }
         }
-        let good = generate::payload(&mut rng, packet_type);
-        for cut in 0..=good.len().min(800) {
+        let good = short_payload(&mut rng, packet_type);
+        for cut in 0..=good.len() {
             ask(good[..cut].to_vec());
         }
-        for at in 0..good.len().min(if short { 40 } else { 400 }) {
+        for at in 0..good.len().min(if short { 40 } else { usize::MAX }) {
             for byte in 0..=255 {
                 let mut bytes = good.clone();
                 bytes[at] = byte;
