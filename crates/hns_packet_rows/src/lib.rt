@@ -258,9 +258,9 @@ pub fn of_card(card: Row) -> [u64; 16]
     of_three(card.least as u64, card.greatest as u64, 0)
 }
 
-fn copy(answer: &mut [u64], values: &[u64], n: usize)
-    requires { ⌜ (n ≤ length (now values)) × (n ≤ length (now answer)) ⌝ }
-    ensures { λ _. ⌜ now (answer .exit) ≡ paste (now (answer .entry)) 0 (now (values .entry)) n ⌝ }
+fn copy(answer: &mut [u64], values: [u64; 16], n: usize)
+    requires { ⌜ (n ≤ 16) × (n ≤ length (now answer)) ⌝ }
+    ensures { λ _. ⌜ now (answer .exit) ≡ paste (now (answer .entry)) 0 values n ⌝ }
 {
     let mut i = 0;
     while i < n {
@@ -275,8 +275,8 @@ pub fn put_row(answer: &mut [u64], values: [u64; 16])
 {
     let room = answer.len();
     if 16 <= room {
-        copy(answer, &values, 16);
+        copy(answer, values, 16);
     } else {
-        copy(answer, &values, room);
+        copy(answer, values, room);
     }
 }

@@ -18,6 +18,7 @@ use crate::rows::{Buffers, Side, copy};
 pub struct Sample {
     name: &'static str,
     times: usize,
+    items: usize,
     packet: Packet,
     payload: Vec<u8>,
 }
@@ -52,9 +53,11 @@ const NOWHERE: [u8; 32] = [9; 32];
 fn sample((name, packet): (&'static str, Packet)) -> Sample {
     let payload = packet.encode_payload().expect("a good packet");
     let times = (400_000 / payload.len()).clamp(1, 10_000);
+    let items = look(&packet).max(1);
     Sample {
         name,
         times,
+        items,
         packet,
         payload,
     }
@@ -165,19 +168,22 @@ pub fn owned<'a>(samples: &'a [Sample], buffers: &'a Buffers) -> Vec<Row<'a>> {
     rows
 }
 
-fn decoded(sample: &Sample) -> port::Packet {
-    let packet_type = port::PacketType::from_u8(sample.packet_type());
+fn decoded(sample: &Sample, packet_type: port::PacketType) -> port::Packet {
     port::Packet::decode(packet_type, black_box(&sample.payload)).expect("a good one")
 }
 
 fn decode_owned<'a>(sample: &'a Sample, buffers: &'a Buffers) -> Row<'a> {
-    let on_port = sample.again(|| decoded(sample));
-    let on_rust = sample.again(|| sample.read_rust());
+    let packet_type = port::PacketType::from_u8(sample.packet_type());
+    let on_port = sample.again(move || decoded(sample, black_box(packet_type)));
+    let packet_type = sample.packet.packet_type();
+    let on_rust = sample.again(move || {
+        Packet::decode(black_box(packet_type), black_box(&sample.payload)).expect("a good one")
+    });
     sample.row("Packet::decode,", buffers, on_port, on_rust)
 }
 
 fn encode_owned<'a>(sample: &'a Sample, buffers: &'a Buffers) -> Row<'a> {
-    let packet = decoded(sample);
+    let packet = decoded(sample, port::PacketType::from_u8(sample.packet_type()));
     let on_port = sample.again(move || packet.encode_payload().expect("a good one"));
     let on_rust = sample.again(|| sample.packet.encode_payload().expect("a good one"));
     sample.row("encode_payload,", buffers, on_port, on_rust)
@@ -199,6 +205,7 @@ impl Sample {
         Row {
             name: format!("{what} {}", self.name),
             bytes: self.times * self.payload.len(),
+            items: self.times * self.items,
             port,
             rust,
             copy: Box::new(copied),

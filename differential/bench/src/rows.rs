@@ -60,7 +60,7 @@ pub const INLINED: [&str; 4] = [
     "put compact sizes, Rust inlined",
 ];
 
-pub fn row<'a>(name: &'static str, inputs: &'a Inputs, buffers: &'a mut Buffers) -> Row<'a> {
+pub fn row<'a>(name: &'static str, inputs: &'a Inputs, buffers: &'a Buffers) -> Row<'a> {
     let bytes = match name {
         _ if name.contains("30 bytes") || name.starts_with("write") => &inputs.small,
         _ if name.contains("mixed") => &inputs.mixed,
@@ -77,7 +77,6 @@ pub fn row<'a>(name: &'static str, inputs: &'a Inputs, buffers: &'a mut Buffers)
     let walked = name.contains("walked");
     let list = name.ends_with("list");
     let inlined = name.ends_with("inlined");
-    let buffers = &*buffers;
     let (port, rust): (Side<'a>, Side<'a>) = match name.split([' ', ',']).next() {
         Some("push") => push(bytes, chunk, walked, buffers),
         Some("frame") => prefix(bytes),
@@ -98,6 +97,7 @@ pub fn row<'a>(name: &'static str, inputs: &'a Inputs, buffers: &'a mut Buffers)
     Row {
         name: name.to_owned(),
         bytes: bytes.len(),
+        items: 0,
         port,
         rust,
         copy: Box::new(move || copy(bytes, chunk, &mut buffers.copied.borrow_mut())),
@@ -282,7 +282,7 @@ fn write<'a>(bytes: &'a [u8], buffers: &'a Buffers) -> (Side<'a>, Side<'a>) {
         let mut output = buffers.output.borrow_mut();
         for frame in bytes.chunks_exact(30) {
             let network = port::NetworkMagic::Mainnet;
-            let written = port::encode(network, frame[4], &frame[9..], &mut output);
+            let written = port::encode(network, frame[4], &frame[9..], &mut output[..]);
             black_box(written.expect("room"));
         }
     };

@@ -1,7 +1,10 @@
 //! Headers: alone, at a place, and put.
 
 use hns_header_consensus::Header as Published;
-use hns_port::{HASHES_SIZE, HEADER_SIZE, Header, Refusal, ffi};
+use hns_port::{
+    BlockHash, BlockTime, CompactTarget, HASHES_SIZE, HEADER_SIZE, Header, MerkleRoot, PowMask,
+    Refusal, ReservedRoot, TreeRoot, WitnessRoot, ffi,
+};
 
 use crate::buffer::{filled, splice};
 use crate::case::{Case, Verdict};
@@ -81,15 +84,15 @@ pub fn put(case: &Case) -> Verdict {
 pub fn ported(header: &Published) -> Header {
     Header {
         nonce: header.nonce,
-        time: header.time.get(),
-        previous_block: header.previous_block.into_bytes(),
-        tree_root: header.tree_root.into_bytes(),
+        time: BlockTime::new(header.time.get()),
+        previous_block: BlockHash::new(header.previous_block.into_bytes()),
+        tree_root: TreeRoot::new(header.tree_root.into_bytes()),
         extra_nonce: header.extra_nonce,
-        reserved_root: header.reserved_root.into_bytes(),
-        witness_root: header.witness_root.into_bytes(),
-        merkle_root: header.merkle_root.into_bytes(),
+        reserved_root: ReservedRoot::new(header.reserved_root.into_bytes()),
+        witness_root: WitnessRoot::new(header.witness_root.into_bytes()),
+        merkle_root: MerkleRoot::new(header.merkle_root.into_bytes()),
         version: header.version,
-        bits: header.bits.get(),
-        mask: header.mask.into_bytes(),
+        bits: CompactTarget::new(header.bits.get()),
+        mask: PowMask::new(header.mask.into_bytes()),
     }
 }

@@ -13,15 +13,16 @@ use crate::rust;
 use crate::stream::LENGTH;
 use crate::writes;
 
-/// What users of the Rust write: only the crate's name differs.
+/// What users of the Rust write: only the crates' names differ.
 macro_rules! program {
-    ($side:ident, $wire:ident) => {
+    ($side:ident, $wire:ident, $primitives:ident) => {
         mod $side {
             use std::net::SocketAddr;
 
+            use $primitives::{BlockHash, NameHash, TreeRoot};
             use $wire::{
-                Frame, FrameDecoder, NetAddress, NetworkMagic, Packet, PacketType, WireError,
-                decode_frame_prefix,
+                CompactBlockRequest, Frame, FrameDecoder, GetProofPacket, LocatorPacket,
+                NetAddress, NetworkMagic, Packet, PacketType, WireError, decode_frame_prefix,
             };
 
             pub type Frames = Vec<(u8, Vec<u8>)>;
@@ -71,6 +72,27 @@ macro_rules! program {
                 Ok(stream.push(chunk)?.into_iter().map(parts).collect())
             }
 
+            /// Packets whose hashes have types of their own.
+            pub fn asked(hash: [u8; 32], index: usize) -> [Packet; 3] {
+                let locator = LocatorPacket {
+                    locator: vec![BlockHash::new(hash)],
+                    stop: BlockHash::default(),
+                };
+                let proof = GetProofPacket {
+                    root: TreeRoot::new(hash),
+                    key: NameHash::default(),
+                };
+                let request = CompactBlockRequest {
+                    block_hash: BlockHash::new(*locator.locator[0].as_bytes()),
+                    indexes: vec![index],
+                };
+                [
+                    Packet::GetHeaders(locator),
+                    Packet::GetProof(proof),
+                    Packet::GetBlockTxn(request),
+                ]
+            }
+
             /// What is said of a type, and of a network.
             pub fn names(number: u8, network: NetworkMagic) -> (String, u8, bool, u32) {
                 let packet_type = PacketType::from_u8(number);
@@ -91,8 +113,8 @@ macro_rules! program {
     };
 }
 
-program!(port, hns_port);
-program!(wire, hns_p2p_wire);
+program!(port, hns_port, hns_port);
+program!(wire, hns_p2p_wire, hns_primitives);
 
 macro_rules! same_constants {
     ($($name:ident)*) => {
@@ -143,7 +165,18 @@ pub fn fields(case: &Case) -> Verdict {
         &owned(&packet).packet_type().as_u8(),
         &packet.packet_type().as_u8(),
     );
-    all([type_of, addresses(&packet), encoded(&packet)])
+    all([
+        type_of,
+        addresses(&packet),
+        encoded(&packet),
+        asked(case.number(1)),
+    ])
+}
+
+fn asked(seed: u64) -> Verdict {
+    let hash = std::array::from_fn(|i| (seed >> (i % 8)) as u8);
+    let (port, rust) = (port::asked(hash, 7), wire::asked(hash, 7));
+    Verdict::of(&port, &rust.each_ref().map(owned))
 }
 
 fn encoded(packet: &Packet) -> Verdict {
@@ -338,10 +371,14 @@ const fn inventory_kind(kind: InventoryKind) -> hns_port::InventoryKind {
     }
 }
 
+const fn block_hash(hash: &hns_primitives::BlockHash) -> hns_port::BlockHash {
+    hns_port::BlockHash::new(hash.into_bytes())
+}
+
 fn locator(packet: &LocatorPacket) -> hns_port::LocatorPacket {
     hns_port::LocatorPacket {
-        locator: packet.locator.iter().map(|hash| *hash.as_bytes()).collect(),
-        stop: packet.stop.into_bytes(),
+        locator: packet.locator.iter().map(block_hash).collect(),
+        stop: block_hash(&packet.stop),
     }
 }
 
@@ -357,14 +394,14 @@ fn reject(packet: &RejectPacket) -> hns_port::RejectPacket {
 
 fn requested(request: &CompactBlockRequest) -> hns_port::CompactBlockRequest {
     hns_port::CompactBlockRequest {
-        block_hash: request.block_hash.into_bytes(),
+        block_hash: block_hash(&request.block_hash),
         indexes: request.indexes.clone(),
     }
 }
 
 const fn getproof(packet: &GetProofPacket) -> hns_port::GetProofPacket {
     hns_port::GetProofPacket {
-        root: packet.root.into_bytes(),
-        key: packet.key.into_bytes(),
+        root: hns_port::TreeRoot::new(packet.root.into_bytes()),
+        key: hns_port::NameHash::new(packet.key.into_bytes()),
     }
 }

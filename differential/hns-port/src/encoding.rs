@@ -116,6 +116,13 @@ impl<'input> Decoder<'input> {
         self.slice(|answer, n| unsafe { ffi::hns_read_slice(input, len, at, length, answer, n) })
     }
 
+    /// So many bytes as the array has.
+    #[inline]
+    pub fn read_array<const LENGTH: usize>(&mut self) -> Result<[u8; LENGTH], Refusal> {
+        let bytes = self.read_slice(LENGTH)?;
+        Ok(*bytes.first_chunk().expect("as many as were asked for"))
+    }
+
     /// So many bytes, if that is not over a limit.
     #[inline]
     pub fn read_bounded(&mut self, length: usize, maximum: usize) -> Result<&'input [u8], Refusal> {

@@ -1,4 +1,4 @@
-use crate::{FRAME_HEADER_SIZE, NetworkMagic, Refusal, answer, ffi, length, row};
+use crate::{FRAME_HEADER_SIZE, NetworkMagic, Output, Refusal, answer, ffi, length, row};
 
 /// A frame: its payload is a part of the caller's slice.
 #[derive(Clone, Copy, Debug, Eq, PartialEq)]
@@ -51,7 +51,7 @@ pub fn encode(
     network: NetworkMagic,
     packet_type: u8,
     payload: &[u8],
-    out: &mut [u8],
+    out: &mut (impl Output + ?Sized),
 ) -> Result<usize, Refusal> {
     let (bytes, len) = (payload.as_ptr(), payload.len());
     // SAFETY: as above.

@@ -1,6 +1,9 @@
 use std::mem::{MaybeUninit, offset_of};
 
-use crate::{Encoder, Refusal, Row, ffi, row};
+use crate::{
+    BlockHash, BlockTime, CompactTarget, Encoder, MerkleRoot, PowMask, Refusal, ReservedRoot, Row,
+    TreeRoot, WitnessRoot, ffi, row,
+};
 
 /// The bytes of a header.
 pub const HEADER_SIZE: usize = 236;
@@ -11,12 +14,12 @@ pub const EXTRA_NONCE_SIZE: usize = 24;
 /// A header's hashes side by side.
 pub const HASHES_SIZE: usize = 216;
 
-/// A block's header. The Rust has types of their own for most fields.
+/// A block's header.
 ///
 /// ```
-/// use hns_port::{HEADER_SIZE, Header};
+/// use hns_port::{BlockTime, HEADER_SIZE, Header};
 ///
-/// let header = Header { time: 1_580_745_078, bits: 0x1c00_ffff, ..Header::default() };
+/// let header = Header { time: BlockTime::new(1_580_745_078), ..Header::default() };
 /// let bytes = header.encode();
 /// assert_eq!(bytes.len(), HEADER_SIZE);
 /// assert_eq!(Header::decode(&bytes)?, header);
@@ -28,27 +31,27 @@ pub const HASHES_SIZE: usize = 216;
 #[repr(C)]
 pub struct Header {
     /// When the block was made.
-    pub time: u64,
+    pub time: BlockTime,
     /// What a miner counts up.
     pub nonce: u32,
     /// The block's version.
     pub version: u32,
     /// The target, in its short form.
-    pub bits: u32,
+    pub bits: CompactTarget,
     /// The hash of the block before.
-    pub previous_block: [u8; 32],
+    pub previous_block: BlockHash,
     /// The root of the tree of names.
-    pub tree_root: [u8; 32],
+    pub tree_root: TreeRoot,
     /// More room for a miner to count in.
     pub extra_nonce: [u8; EXTRA_NONCE_SIZE],
     /// Kept for later use.
-    pub reserved_root: [u8; 32],
+    pub reserved_root: ReservedRoot,
     /// The root of the witnesses.
-    pub witness_root: [u8; 32],
+    pub witness_root: WitnessRoot,
     /// The root of the transactions.
-    pub merkle_root: [u8; 32],
+    pub merkle_root: MerkleRoot,
     /// What the hash of the work is masked with.
-    pub mask: [u8; 32],
+    pub mask: PowMask,
 }
 
 const HASHES: usize = offset_of!(Header, previous_block);
@@ -88,7 +91,8 @@ impl Header {
     #[inline]
     pub fn encode_to(&self, encoder: &mut Encoder<'_>) {
         let (hashes, m) = (self.hashes(), HASHES_SIZE);
-        let (nonce, time, version, bits) = (self.nonce, self.time, self.version, self.bits);
+        let (nonce, time) = (self.nonce, self.time.get());
+        let (version, bits) = (self.version, self.bits.get());
         // SAFETY: as above.
         encoder.put(|out, len, at| unsafe {
             ffi::hns_put_header(nonce, time, hashes, m, version, bits, out, len, at)
@@ -107,9 +111,9 @@ impl Header {
         // SAFETY: the places of fields.
         let numbers = |row: &Row| unsafe {
             (&raw mut (*to).nonce).write(row.at(2) as u32);
-            (&raw mut (*to).time).write(row.at(3));
+            (&raw mut (*to).time).write(BlockTime::new(row.at(3)));
             (&raw mut (*to).version).write(row.at(4) as u32);
-            (&raw mut (*to).bits).write(row.at(5) as u32);
+            (&raw mut (*to).bits).write(CompactTarget::new(row.at(5) as u32));
             row.at(1) as usize
         };
         let next = row(|answer, n| call(hashes, HASHES_SIZE, answer, n), numbers)?;

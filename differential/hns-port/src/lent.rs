@@ -21,6 +21,7 @@
 //! # Ok::<(), hns_port::Refusal>(())
 //! ```
 
+pub use crate::Output;
 pub use crate::encoding::{Decoder, Encoder};
 pub use crate::frame::{
     Delivered, Frame, FrameDecoder, Pushed, decode_exact, decode_frame_prefix, encode, push,

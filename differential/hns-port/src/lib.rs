@@ -12,11 +12,11 @@
 //! ```
 //!
 //! What is read, refused or written is decided by the proved code: a decode is one call of it (a second
-//! for addresses and indexes, which are no bytes of the payload, and one for each header), and copies of
-//! the bytes at the places that it answers. What differs from the Rust:
+//! for addresses, which are no bytes of the payload, and one for each header), and copies of the bytes at
+//! the places that it answers. What differs from the Rust:
 //!
 //! - a [`Refusal`] is a number and its values; `WireError` is another name for it;
-//! - hashes and roots are `[u8; 32]`, a header's numbers are plain;
+//! - [`BlockHash`] and the other values of `hns_primitives` are here, since no other crate is needed;
 //! - blocks, transactions, compact blocks and proofs are the bytes that they were sent as.
 //!
 //! [`lent`] has the calls without allocations.
@@ -44,6 +44,7 @@ pub mod lent;
 mod owned_frame;
 mod owned_packet;
 mod packet;
+mod primitives;
 mod refusal;
 mod types;
 mod writers;
@@ -51,7 +52,8 @@ mod writers;
 pub use lent::*;
 pub use owned_frame::{Frame, FrameDecoder, decode_frame_prefix};
 pub use owned_packet::Packet;
-pub use refusal::{Refusal, WireError};
+pub use primitives::*;
+pub use refusal::{DecodeError, HeaderError, Refusal, WireError};
 pub use types::*;
 
 /// The folder of the libraries that were linked.
@@ -95,13 +97,45 @@ fn row<T>(call: impl FnOnce(*mut u64, usize), says: impl FnOnce(&Row) -> T) -> R
     })
 }
 
+/// An output to lend: bytes, or room that holds none yet. A call stores there and does not read.
+///
+/// # Safety
+///
+/// The places are those of a slice of bytes that may be written.
+pub unsafe trait Output {
+    /// The first place, and how many there are.
+    fn places(&mut self) -> (*mut u8, usize);
+}
+
+macro_rules! output {
+    ($($slice:ty)*) => {$(
+        // SAFETY: the places of the slice.
+        unsafe impl Output for $slice {
+            #[inline]
+            fn places(&mut self) -> (*mut u8, usize) {
+                (self.as_mut_ptr().cast(), self.len())
+            }
+        }
+    )*};
+}
+
+output! { [u8] Vec<u8> [MaybeUninit<u8>] }
+
+// SAFETY: the places of the array.
+unsafe impl<const N: usize> Output for [u8; N] {
+    #[inline]
+    fn places(&mut self) -> (*mut u8, usize) {
+        (self.as_mut_ptr(), N)
+    }
+}
+
 /// The length that a call writes to a lent output, which it takes with the row.
 #[inline]
 fn length(
-    out: &mut [u8],
+    out: &mut (impl Output + ?Sized),
     call: impl FnOnce(*mut u8, usize, *mut u64, usize),
 ) -> Result<usize, Refusal> {
-    let (to, room) = (out.as_mut_ptr(), out.len());
+    let (to, room) = out.places();
     row(
         |answer, n| call(to, room, answer, n),
         |row| row.at(1) as usize,

@@ -1,7 +1,7 @@
 //! The frame and the stream with buffers of their own.
 
-use crate::owned_packet::{needed, written};
-use crate::{NetworkMagic, Packet, PacketType, Refusal, lent, write_raw};
+use crate::owned_packet::written;
+use crate::{FRAME_HEADER_SIZE, NetworkMagic, Packet, PacketType, Refusal, lent, write_raw};
 
 /// A frame.
 ///
@@ -27,11 +27,14 @@ pub struct Frame {
 impl Frame {
     /// A frame of a payload, which is refused by 5 where it is too long.
     pub fn new(packet_type: PacketType, payload: Vec<u8>) -> Result<Self, Refusal> {
-        needed(|out| write_raw(&payload, out))?;
-        Ok(Self {
-            packet_type,
-            payload,
-        })
+        // Without room, what is not refused before is refused by 16.
+        match write_raw(&payload, &mut []) {
+            Err(refusal) if refusal.number != 16 => Err(refusal),
+            _ => Ok(Self {
+                packet_type,
+                payload,
+            }),
+        }
     }
 
     /// The frame of a packet.
@@ -46,7 +49,10 @@ impl Frame {
 
     /// Writes the frame.
     pub fn encode(&self, network: NetworkMagic) -> Result<Vec<u8>, Refusal> {
-        written(|out| lent::encode(network, self.packet_type.as_u8(), &self.payload, out))
+        let (packet_type, payload) = (self.packet_type.as_u8(), &self.payload[..]);
+        written(FRAME_HEADER_SIZE + payload.len(), |out| {
+            lent::encode(network, packet_type, payload, out)
+        })
     }
 
     /// Reads bytes that are one frame.

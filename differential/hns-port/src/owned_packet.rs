@@ -3,15 +3,16 @@
 
 use std::mem::MaybeUninit;
 
-use crate::packet::read_row;
+use crate::packet::{all_indexes, numbers, read_row};
 use crate::types::{array, ip};
 use crate::writers::VersionFields;
 use crate::{
-    CompactBlockRequest, Encoder, GetProofPacket, Header, Inventory, InventoryKind, LocatorPacket,
-    MAX_USER_AGENT_SIZE, NetAddress, PacketRow, PacketType, Refusal, RejectPacket, VersionPacket,
-    indexes, write_addr, write_empty, write_feefilter, write_getblocktxn, write_getproof,
-    write_headers, write_inventory, write_locator, write_nonce, write_raw, write_reject,
-    write_sendcmpct, write_version,
+    BlockHash, CompactBlockRequest, Encoder, GetProofPacket, HEADER_SIZE, Header, Inventory,
+    InventoryKind, LocatorPacket, MAX_FRAME_PAYLOAD_SIZE, MAX_USER_AGENT_SIZE, NET_ADDRESS_SIZE,
+    NameHash, NetAddress, PacketRow, PacketType, Refusal, RejectPacket, TreeRoot, VersionPacket,
+    write_addr, write_empty, write_feefilter, write_getblocktxn, write_getproof, write_headers,
+    write_inventory, write_locator, write_nonce, write_raw, write_reject, write_sendcmpct,
+    write_version,
 };
 
 /// A packet. Blocks, transactions and proofs are carried as the bytes that they were sent as.
@@ -145,12 +146,47 @@ impl Packet {
 
     /// Reads a payload as a packet of a type.
     pub fn decode(packet_type: PacketType, payload: &[u8]) -> Result<Self, Refusal> {
-        // The number decides, also where it is `Unknown`'s.
-        match PacketType::from_u8(packet_type.as_u8()) {
-            known @ (PacketType::Version | PacketType::Reject) => {
-                answered(known, payload, &mut [0; MAX_USER_AGENT_SIZE])
+        let read = |make: fn(Answer<'_>) -> Self| read(packet_type, payload, make);
+        match packet_type {
+            PacketType::Version => read_text(packet_type, payload, 12, |answer, agent| {
+                answer.version(agent)
+            }),
+            PacketType::Verack => read(|_| Self::Verack),
+            PacketType::Ping => read(|answer| Self::Ping(answer.nonce())),
+            PacketType::Pong => read(|answer| Self::Pong(answer.nonce())),
+            PacketType::GetAddr => read(|_| Self::GetAddr),
+            PacketType::Addr => addresses(payload).map(Self::Addr),
+            PacketType::Inv => read(|answer| Self::Inv(answer.inventory())),
+            PacketType::GetData => read(|answer| Self::GetData(answer.inventory())),
+            PacketType::NotFound => read(|answer| Self::NotFound(answer.inventory())),
+            PacketType::GetBlocks => read(|answer| Self::GetBlocks(answer.locator())),
+            PacketType::GetHeaders => read(|answer| Self::GetHeaders(answer.locator())),
+            PacketType::Headers => headers(payload).map(Self::Headers),
+            PacketType::SendHeaders => read(|_| Self::SendHeaders),
+            PacketType::Block => read(|answer| Self::Block(answer.raw())),
+            PacketType::Tx => read(|answer| Self::Tx(answer.raw())),
+            PacketType::Reject => read_text(packet_type, payload, 4, |answer, reason| {
+                answer.reject(reason)
+            }),
+            PacketType::Mempool => read(|_| Self::Mempool),
+            PacketType::FilterLoad => read(|answer| Self::FilterLoad(answer.raw())),
+            PacketType::FilterAdd => read(|answer| Self::FilterAdd(answer.raw())),
+            PacketType::FilterClear => read(|_| Self::FilterClear),
+            PacketType::MerkleBlock => read(|answer| Self::MerkleBlock(answer.raw())),
+            PacketType::FeeFilter => read(|answer| Self::FeeFilter(answer.row[1] as i64)),
+            PacketType::SendCmpct => read(|answer| answer.sendcmpct()),
+            PacketType::CmpctBlock => read(|answer| Self::CmpctBlock(answer.raw())),
+            PacketType::GetBlockTxn => request(payload).map(Self::GetBlockTxn),
+            PacketType::BlockTxn => read(|answer| Self::BlockTxn(answer.raw())),
+            PacketType::GetProof => read(|answer| Self::GetProof(answer.getproof())),
+            PacketType::Proof => read(|answer| Self::Proof(answer.raw())),
+            PacketType::Claim => read(|answer| Self::Claim(answer.raw())),
+            PacketType::Airdrop => read(|answer| Self::Airdrop(answer.raw())),
+            // The number decides, also where it is that of a type with a name.
+            PacketType::Unknown(number @ 0..30) => {
+                Self::decode(PacketType::from_u8(number), payload)
             }
-            known => answered(known, payload, &mut []),
+            PacketType::Unknown(number) => unknown(number, payload),
         }
     }
 
@@ -162,25 +198,26 @@ impl Packet {
             | Self::GetAddr
             | Self::SendHeaders
             | Self::Mempool
-            | Self::FilterClear => written(write_empty),
+            | Self::FilterClear => written(0, |out| write_empty(out)),
             Self::Ping(nonce) | Self::Pong(nonce) => {
-                written(|out| write_nonce(u64::from_le_bytes(*nonce), out))
+                written(8, |out| write_nonce(u64::from_le_bytes(*nonce), out))
             }
-            Self::Addr(items) => listed(items, NetAddress::flat, write_addr),
+            Self::Addr(items) => encode_addr(items),
             Self::Inv(items) | Self::GetData(items) | Self::NotFound(items) => {
-                listed(items, Inventory::flat, write_inventory)
+                encode_inventory(items)
             }
-            Self::GetBlocks(packet) | Self::GetHeaders(packet) => {
-                written(|out| write_locator(packet.locator.as_flattened(), &packet.stop, out))
-            }
+            Self::GetBlocks(packet) | Self::GetHeaders(packet) => encode_locator(packet),
             Self::Headers(headers) => encode_headers(headers),
             Self::Reject(packet) => encode_reject(packet),
-            Self::FeeFilter(rate) => written(|out| write_feefilter(*rate, out)),
+            Self::FeeFilter(rate) => written(8, |out| write_feefilter(*rate, out)),
             Self::SendCmpct { mode, version } => {
-                written(|out| write_sendcmpct(*mode, *version, out))
+                written(9, |out| write_sendcmpct(*mode, *version, out))
             }
             Self::GetBlockTxn(request) => encode_getblocktxn(request),
-            Self::GetProof(packet) => written(|out| write_getproof(&packet.root, &packet.key, out)),
+            Self::GetProof(packet) => {
+                let (root, key) = (packet.root.as_bytes(), packet.key.as_bytes());
+                written(64, |out| write_getproof(root, key, out))
+            }
             Self::Block(payload)
             | Self::Tx(payload)
             | Self::FilterLoad(payload)
@@ -191,66 +228,88 @@ impl Packet {
             | Self::Proof(payload)
             | Self::Claim(payload)
             | Self::Airdrop(payload)
-            | Self::Unknown { payload, .. } => written(|out| write_raw(payload, out)),
+            | Self::Unknown { payload, .. } => {
+                written(payload.len(), |out| write_raw(payload, out))
+            }
         }
     }
 }
 
 // ---- reading
 
-/// Inlined, and so is what it calls, so that the packet is built where it is returned.
+/// What is made of the answer to a reading. Inlined, so that a packet is built where it is returned.
 #[inline(always)]
-fn answered(packet_type: PacketType, payload: &[u8], text: &mut [u8]) -> Result<Packet, Refusal> {
+fn read<T>(
+    packet_type: PacketType,
+    payload: &[u8],
+    make: impl FnOnce(Answer<'_>) -> T,
+) -> Result<T, Refusal> {
     let mut row = MaybeUninit::uninit();
-    let row = read_row(packet_type.as_u8(), payload, text, &mut row)?;
-    Answer { payload, row, text }.packet(packet_type)
+    let row = read_row(packet_type.as_u8(), payload, &mut [0_u8; 0], &mut row)?;
+    Ok(make(Answer { payload, row }))
+}
+
+/// The same with the packet's text, whose length is one of the row's numbers.
+#[inline(always)]
+fn read_text(
+    packet_type: PacketType,
+    payload: &[u8],
+    length: usize,
+    make: impl FnOnce(Answer<'_>, String) -> Packet,
+) -> Result<Packet, Refusal> {
+    let mut row = MaybeUninit::uninit();
+    // The text is a part of the payload.
+    let mut text = Vec::with_capacity(payload.len().min(MAX_USER_AGENT_SIZE));
+    let to = text.spare_capacity_mut();
+    let row = read_row(packet_type.as_u8(), payload, to, &mut row)?;
+    // SAFETY: an accepted call has stored every byte of the text whose length it answers.
+    unsafe { text.set_len(row[length] as usize) };
+    let text = String::from_utf8(text).expect("seven bits are UTF-8");
+    Ok(make(Answer { payload, row }, text))
+}
+
+fn addresses(payload: &[u8]) -> Result<Vec<NetAddress>, Refusal> {
+    let count = read(PacketType::Addr, payload, |answer| answer.at(1))?;
+    NetAddress::list(payload, count)
+}
+
+fn headers(payload: &[u8]) -> Result<Vec<Header>, Refusal> {
+    let (count, first) = read(PacketType::Headers, payload, |answer| {
+        (answer.at(1), answer.at(2))
+    })?;
+    // A list of results would not know how long it will be, and grow.
+    let mut headers = Vec::with_capacity(count);
+    for item in payload[first..].chunks_exact(HEADER_SIZE) {
+        headers.push(Header::decode(item)?);
+    }
+    Ok(headers)
+}
+
+/// A getblocktxn by its indexes: these read where the payload does, which begins with its hash.
+fn request(payload: &[u8]) -> Result<CompactBlockRequest, Refusal> {
+    let indexes = all_indexes(payload)?;
+    Ok(CompactBlockRequest {
+        block_hash: BlockHash::new(array(payload, 0)),
+        indexes,
+    })
+}
+
+fn unknown(packet_type: u8, payload: &[u8]) -> Result<Packet, Refusal> {
+    read(PacketType::Unknown(packet_type), payload, |answer| {
+        Packet::Unknown {
+            packet_type,
+            payload: answer.raw(),
+        }
+    })
 }
 
 /// What the library answered about a payload: every place in the row has its bytes.
 struct Answer<'payload> {
     payload: &'payload [u8],
     row: &'payload PacketRow,
-    text: &'payload [u8],
 }
 
 impl Answer<'_> {
-    #[inline(always)]
-    fn packet(&self, packet_type: PacketType) -> Result<Packet, Refusal> {
-        Ok(match packet_type {
-            PacketType::Version => Packet::Version(self.version()),
-            PacketType::Verack => Packet::Verack,
-            PacketType::Ping => Packet::Ping(self.row[1].to_le_bytes()),
-            PacketType::Pong => Packet::Pong(self.row[1].to_le_bytes()),
-            PacketType::GetAddr => Packet::GetAddr,
-            PacketType::Addr => Packet::Addr(NetAddress::list(self.payload, self.at(1))?),
-            PacketType::Inv => Packet::Inv(self.inventory()),
-            PacketType::GetData => Packet::GetData(self.inventory()),
-            PacketType::NotFound => Packet::NotFound(self.inventory()),
-            PacketType::GetBlocks => Packet::GetBlocks(self.locator()),
-            PacketType::GetHeaders => Packet::GetHeaders(self.locator()),
-            PacketType::Headers => Packet::Headers(self.headers()?),
-            PacketType::SendHeaders => Packet::SendHeaders,
-            PacketType::Block => Packet::Block(self.raw()),
-            PacketType::Tx => Packet::Tx(self.raw()),
-            PacketType::Reject => Packet::Reject(self.reject()),
-            PacketType::Mempool => Packet::Mempool,
-            PacketType::FilterLoad => Packet::FilterLoad(self.raw()),
-            PacketType::FilterAdd => Packet::FilterAdd(self.raw()),
-            PacketType::FilterClear => Packet::FilterClear,
-            PacketType::MerkleBlock => Packet::MerkleBlock(self.raw()),
-            PacketType::FeeFilter => Packet::FeeFilter(self.row[1] as i64),
-            PacketType::SendCmpct => self.sendcmpct(),
-            PacketType::CmpctBlock => Packet::CmpctBlock(self.raw()),
-            PacketType::GetBlockTxn => Packet::GetBlockTxn(self.request()?),
-            PacketType::BlockTxn => Packet::BlockTxn(self.raw()),
-            PacketType::GetProof => Packet::GetProof(self.getproof()),
-            PacketType::Proof => Packet::Proof(self.raw()),
-            PacketType::Claim => Packet::Claim(self.raw()),
-            PacketType::Airdrop => Packet::Airdrop(self.raw()),
-            PacketType::Unknown(packet_type) => self.unknown(packet_type),
-        })
-    }
-
     /// A number of the row as a place or a count.
     fn at(&self, i: usize) -> usize {
         self.row[i] as usize
@@ -261,18 +320,17 @@ impl Answer<'_> {
         array(self.payload, self.row[i])
     }
 
-    /// So many bytes of the text that was put out, each without its top bit.
-    fn text(&self, length: usize) -> String {
-        String::from_utf8(self.text[..length].to_vec()).expect("seven bits are UTF-8")
+    fn nonce(&self) -> [u8; 8] {
+        self.row[1].to_le_bytes()
     }
 
     fn raw(&self) -> Vec<u8> {
         self.payload[self.at(1)..][..self.at(2)].to_vec()
     }
 
-    fn version(&self) -> VersionPacket {
+    fn version(&self, agent: String) -> Packet {
         let row = self.row;
-        VersionPacket {
+        Packet::Version(VersionPacket {
             version: row[1] as u32,
             services: row[2],
             time: row[3],
@@ -284,10 +342,10 @@ impl Answer<'_> {
                 key: self.array(9),
             },
             nonce: row[10].to_le_bytes(),
-            agent: self.text(self.at(12)),
+            agent,
             height: row[13] as u32,
             no_relay: row[14] == 1,
-        }
+        })
     }
 
     fn inventory(&self) -> Vec<Inventory> {
@@ -296,30 +354,20 @@ impl Answer<'_> {
     }
 
     fn locator(&self) -> LocatorPacket {
-        let (locator, _) = self.payload[self.at(2)..self.at(3)].as_chunks();
+        let (hashes, _) = self.payload[self.at(2)..self.at(3)].as_chunks();
         LocatorPacket {
-            locator: locator.to_vec(),
-            stop: self.array(3),
+            locator: hashes.iter().copied().map(BlockHash::new).collect(),
+            stop: BlockHash::new(self.array(3)),
         }
     }
 
-    fn headers(&self) -> Result<Vec<Header>, Refusal> {
-        let items = self.payload[self.at(2)..].chunks_exact(crate::HEADER_SIZE);
-        // A list of results would not know how long it will be, and grow.
-        let mut headers = Vec::with_capacity(self.at(1));
-        for item in items {
-            headers.push(Header::decode(item)?);
-        }
-        Ok(headers)
-    }
-
-    fn reject(&self) -> RejectPacket {
-        RejectPacket {
+    fn reject(&self, reason: String) -> Packet {
+        Packet::Reject(RejectPacket {
             message: PacketType::from_u8(self.row[1] as u8),
             code: self.row[2] as u8,
-            reason: self.text(self.at(4)),
+            reason,
             hash: (self.row[5] == 1).then(|| self.array(6)),
-        }
+        })
     }
 
     fn sendcmpct(&self) -> Packet {
@@ -329,26 +377,10 @@ impl Answer<'_> {
         }
     }
 
-    fn request(&self) -> Result<CompactBlockRequest, Refusal> {
-        let mut out = vec![0; self.at(1)];
-        indexes(self.payload, &mut out)?;
-        Ok(CompactBlockRequest {
-            block_hash: self.array(3),
-            indexes: out.into_iter().map(|index| index as usize).collect(),
-        })
-    }
-
     fn getproof(&self) -> GetProofPacket {
         GetProofPacket {
-            root: self.array(1),
-            key: self.array(2),
-        }
-    }
-
-    fn unknown(&self, packet_type: u8) -> Packet {
-        Packet::Unknown {
-            packet_type,
-            payload: self.raw(),
+            root: TreeRoot::new(self.array(1)),
+            key: NameHash::new(self.array(2)),
         }
     }
 }
@@ -371,52 +403,58 @@ impl Inventory {
 
 // ---- writing
 
-/// The length of what a writer writes, which a call without room answers by 16, or its refusal.
-pub(crate) fn needed(
-    write: impl FnOnce(&mut [u8]) -> Result<usize, Refusal>,
-) -> Result<usize, Refusal> {
-    match write(&mut []) {
-        Err(Refusal { number: 16, a, .. }) => Ok(a as usize),
-        other => other,
-    }
-}
-
-/// What a writer writes, in an allocation of just its length: a short payload by one call, into a
-/// buffer that is at hand.
+/// What a writer writes, by one call into room for the most that it may need; that is not cleared before.
 #[inline]
 pub(crate) fn written(
-    write: impl Fn(&mut [u8]) -> Result<usize, Refusal>,
+    most: usize,
+    write: impl Fn(&mut [MaybeUninit<u8>]) -> Result<usize, Refusal>,
 ) -> Result<Vec<u8>, Refusal> {
-    let mut short = [0; 256];
-    match write(&mut short) {
-        Ok(length) => Ok(short[..length].to_vec()),
-        Err(Refusal { number: 16, a, .. }) => {
-            let mut out = vec![0; a as usize];
-            write(&mut out)?;
-            Ok(out)
-        }
-        Err(refusal) => Err(refusal),
-    }
+    let mut out = Vec::with_capacity(most);
+    let length = write(out.spare_capacity_mut())?;
+    // SAFETY: an accepted call has stored every byte of the length that it answers.
+    unsafe { out.set_len(length) };
+    Ok(out)
 }
 
-/// What a writer of flat items writes.
-fn listed<T, const N: usize>(
-    items: &[T],
-    flat: impl Fn(&T) -> [u8; N],
-    write: impl Fn(&[u8], &mut [u8]) -> Result<usize, Refusal>,
-) -> Result<Vec<u8>, Refusal> {
-    let flat: Vec<[u8; N]> = items.iter().map(flat).collect();
-    written(|out| write(flat.as_flattened(), out))
+/// Room for a payload with a count: a list that is refused for its length needs none.
+fn most(count: usize, item: usize, other: usize) -> usize {
+    count
+        .saturating_mul(item)
+        .saturating_add(3 + other)
+        .min(MAX_FRAME_PAYLOAD_SIZE)
+}
+
+fn encode_addr(items: &[NetAddress]) -> Result<Vec<u8>, Refusal> {
+    let flat: Vec<[u8; 67]> = items.iter().map(NetAddress::flat).collect();
+    written(most(items.len(), NET_ADDRESS_SIZE, 0), |out| {
+        write_addr(flat.as_flattened(), out)
+    })
+}
+
+fn encode_inventory(items: &[Inventory]) -> Result<Vec<u8>, Refusal> {
+    let flat: Vec<[u8; 36]> = items.iter().map(Inventory::flat).collect();
+    written(most(items.len(), 36, 0), |out| {
+        write_inventory(flat.as_flattened(), out)
+    })
+}
+
+fn encode_locator(packet: &LocatorPacket) -> Result<Vec<u8>, Refusal> {
+    let (hashes, stop) = (BlockHash::flat(&packet.locator), packet.stop.as_bytes());
+    written(most(packet.locator.len(), 32, 32), |out| {
+        write_locator(hashes, stop, out)
+    })
 }
 
 /// Headers are put side by side where the writer takes them, and not encoded one by one and copied.
 fn encode_headers(headers: &[Header]) -> Result<Vec<u8>, Refusal> {
-    let mut flat = vec![0; headers.len() * crate::HEADER_SIZE];
+    let mut flat = vec![0; headers.len() * HEADER_SIZE];
     let mut encoder = Encoder::new(&mut flat);
     headers
         .iter()
         .for_each(|header| header.encode_to(&mut encoder));
-    written(|out| write_headers(&flat, out))
+    written(most(headers.len(), HEADER_SIZE, 0), |out| {
+        write_headers(&flat, out)
+    })
 }
 
 fn encode_version(packet: &VersionPacket) -> Result<Vec<u8>, Refusal> {
@@ -429,16 +467,22 @@ fn encode_version(packet: &VersionPacket) -> Result<Vec<u8>, Refusal> {
         height: packet.height,
         no_relay: packet.no_relay,
     };
-    written(|out| write_version(&fields, packet.agent.as_bytes(), out))
+    let agent = packet.agent.as_bytes();
+    written(122 + agent.len(), |out| write_version(&fields, agent, out))
 }
 
 fn encode_reject(packet: &RejectPacket) -> Result<Vec<u8>, Refusal> {
     let (message, reason) = (packet.message.as_u8(), packet.reason.as_bytes());
     let (present, hash) = (packet.hash.is_some(), packet.hash.unwrap_or_default());
-    written(|out| write_reject(message, packet.code, reason, present, &hash, out))
+    written(35 + reason.len(), |out| {
+        write_reject(message, packet.code, reason, present, &hash, out)
+    })
 }
 
 fn encode_getblocktxn(request: &CompactBlockRequest) -> Result<Vec<u8>, Refusal> {
-    let indexes: Vec<u64> = request.indexes.iter().map(|index| *index as u64).collect();
-    written(|out| write_getblocktxn(&request.block_hash, &indexes, out))
+    let indexes = numbers(&request.indexes);
+    let hash = request.block_hash.as_bytes();
+    written(most(indexes.len(), 3, 32), |out| {
+        write_getblocktxn(hash, indexes, out)
+    })
 }

@@ -1,6 +1,6 @@
 use std::mem::MaybeUninit;
 
-use crate::{Refusal, ffi, length};
+use crate::{MAX_COMPACT_BLOCK_TRANSACTIONS, Output, Refusal, ffi, length};
 
 /// What a call about packets answers: sixteen numbers, as hns_ffi.h has them.
 pub type PacketRow = [u64; 16];
@@ -36,11 +36,11 @@ fn long_row(call: impl FnOnce(*mut u64, usize)) -> Result<PacketRow, Refusal> {
 pub(crate) fn read_row<'row>(
     packet_type: u8,
     payload: &[u8],
-    text: &mut [u8],
+    text: &mut (impl Output + ?Sized),
     row: &'row mut MaybeUninit<PacketRow>,
 ) -> Result<&'row PacketRow, Refusal> {
     let (bytes, len) = (payload.as_ptr(), payload.len());
-    let (to, room) = (text.as_mut_ptr(), text.len());
+    let (to, room) = text.places();
     // SAFETY: the pointers and counts are those of slices, and they do not overlap.
     stored(row, |answer, n| unsafe {
         ffi::hns_read_packet(packet_type, bytes, len, to, room, answer, n);
@@ -69,6 +69,27 @@ pub fn indexes(payload: &[u8], out: &mut [u64]) -> Result<usize, Refusal> {
     // SAFETY: as above.
     let row = long_row(|answer, n| unsafe { ffi::hns_indexes(bytes, len, to, room, answer, n) })?;
     Ok(row[1] as usize)
+}
+
+const _: () = assert!(size_of::<usize>() == size_of::<u64>());
+
+/// Indexes as the library takes them.
+pub(crate) const fn numbers(indexes: &[usize]) -> &[u64] {
+    // SAFETY: both are numbers of 64 bits.
+    unsafe { std::slice::from_raw_parts(indexes.as_ptr().cast(), indexes.len()) }
+}
+
+/// The same as a vector. A payload has no more indexes than bytes after its hash and its count.
+pub(crate) fn all_indexes(payload: &[u8]) -> Result<Vec<usize>, Refusal> {
+    let (bytes, len) = (payload.as_ptr(), payload.len());
+    let room = len.saturating_sub(33).min(MAX_COMPACT_BLOCK_TRANSACTIONS);
+    let mut out = Vec::<usize>::with_capacity(room);
+    let to = out.as_mut_ptr().cast();
+    // SAFETY: as above.
+    let row = long_row(|answer, n| unsafe { ffi::hns_indexes(bytes, len, to, room, answer, n) })?;
+    // SAFETY: an accepted call has stored as many numbers as it answers.
+    unsafe { out.set_len(row[1] as usize) };
+    Ok(out)
 }
 
 /// The numbers of all addresses or inventory items side by side to the front of `out`, six or two for
@@ -117,7 +138,11 @@ pub fn length_card(packet_type: u8) -> (u64, u64) {
 /// Reads a payload as a packet of a type and writes it again, by the writer of that type, to the
 /// output's front; answers the length.
 #[inline]
-pub fn rewrite(packet_type: u8, payload: &[u8], out: &mut [u8]) -> Result<usize, Refusal> {
+pub fn rewrite(
+    packet_type: u8,
+    payload: &[u8],
+    out: &mut (impl Output + ?Sized),
+) -> Result<usize, Refusal> {
     let (bytes, len) = (payload.as_ptr(), payload.len());
     // SAFETY: as above.
     length(out, |to, room, answer, n| unsafe {

@@ -17,6 +17,12 @@ pub struct Refusal {
 /// The Rust's name for the error of packets and frames.
 pub type WireError = Refusal;
 
+/// The Rust's name for the error of reads.
+pub type DecodeError = Refusal;
+
+/// The Rust's name for the error of headers.
+pub type HeaderError = Refusal;
+
 impl Refusal {
     /// The field that 7 and 10 are about.
     const fn field(&self) -> &'static str {

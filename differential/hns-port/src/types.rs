@@ -2,7 +2,7 @@
 
 use std::net::{Ipv4Addr, Ipv6Addr, SocketAddr};
 
-use crate::{Decoder, Refusal, item_numbers, write_addr};
+use crate::{BlockHash, Decoder, NameHash, Refusal, TreeRoot, item_numbers, write_addr};
 
 /// The version of the protocol that a node of today announces.
 pub const PROTOCOL_VERSION: u32 = 3;
@@ -277,13 +277,13 @@ pub struct VersionPacket {
     pub no_relay: bool,
 }
 
-/// A getblocks or a getheaders packet. The Rust has `BlockHash` for the arrays.
+/// A getblocks or a getheaders packet.
 #[derive(Clone, Debug, Eq, PartialEq)]
 pub struct LocatorPacket {
     /// Hashes of blocks that the sender has, the newest first.
-    pub locator: Vec<[u8; 32]>,
+    pub locator: Vec<BlockHash>,
     /// The last block that is asked for, or zeros.
-    pub stop: [u8; 32],
+    pub stop: BlockHash,
 }
 
 /// A reject packet.
@@ -299,20 +299,20 @@ pub struct RejectPacket {
     pub hash: Option<[u8; 32]>,
 }
 
-/// A getproof packet. The Rust has `TreeRoot` and `NameHash` for the arrays.
+/// A getproof packet.
 #[derive(Clone, Copy, Debug, Eq, PartialEq)]
 pub struct GetProofPacket {
     /// The root of the tree.
-    pub root: [u8; 32],
+    pub root: TreeRoot,
     /// The hash of the name.
-    pub key: [u8; 32],
+    pub key: NameHash,
 }
 
-/// A getblocktxn packet. The Rust has `BlockHash` for the array.
+/// A getblocktxn packet.
 #[derive(Clone, Debug, Eq, PartialEq)]
 pub struct CompactBlockRequest {
     /// The hash of the block.
-    pub block_hash: [u8; 32],
+    pub block_hash: BlockHash,
     /// The places of the transactions in the block. They rise, and none is above 65,535.
     pub indexes: Vec<usize>,
 }

@@ -1,13 +1,17 @@
 //! The packet writers: each writes a payload to the output's front and answers its length.
 
-use crate::{NetAddress, Refusal, ffi, length};
+use crate::{NetAddress, Output, Refusal, ffi, length};
 
 type WriteBytes =
     unsafe extern "C" fn(*const u8, usize, to: *mut u8, room: usize, row: *mut u64, n: usize);
 
 /// A writer whose fields are bytes.
 #[inline]
-fn write_bytes(write: WriteBytes, bytes: &[u8], out: &mut [u8]) -> Result<usize, Refusal> {
+fn write_bytes(
+    write: WriteBytes,
+    bytes: &[u8],
+    out: &mut (impl Output + ?Sized),
+) -> Result<usize, Refusal> {
     let (from, len) = (bytes.as_ptr(), bytes.len());
     // SAFETY: the pointers and counts are those of slices, and they do not overlap.
     length(out, |to, room, answer, n| unsafe {
@@ -17,7 +21,7 @@ fn write_bytes(write: WriteBytes, bytes: &[u8], out: &mut [u8]) -> Result<usize,
 
 /// No bytes: a verack, getaddr, sendheaders, mempool or filterclear.
 #[inline]
-pub fn write_empty(out: &mut [u8]) -> Result<usize, Refusal> {
+pub fn write_empty(out: &mut (impl Output + ?Sized)) -> Result<usize, Refusal> {
     // SAFETY: as above.
     length(out, |to, room, answer, n| unsafe {
         ffi::hns_write_empty(to, room, answer, n);
@@ -26,7 +30,7 @@ pub fn write_empty(out: &mut [u8]) -> Result<usize, Refusal> {
 
 /// A ping or a pong.
 #[inline]
-pub fn write_nonce(nonce: u64, out: &mut [u8]) -> Result<usize, Refusal> {
+pub fn write_nonce(nonce: u64, out: &mut (impl Output + ?Sized)) -> Result<usize, Refusal> {
     // SAFETY: as above.
     length(out, |to, room, answer, n| unsafe {
         ffi::hns_write_nonce(nonce, to, room, answer, n);
@@ -35,19 +39,23 @@ pub fn write_nonce(nonce: u64, out: &mut [u8]) -> Result<usize, Refusal> {
 
 /// An addr of flat items: time 8, services 8, ip 16, port 2, key 33.
 #[inline]
-pub fn write_addr(items: &[u8], out: &mut [u8]) -> Result<usize, Refusal> {
+pub fn write_addr(items: &[u8], out: &mut (impl Output + ?Sized)) -> Result<usize, Refusal> {
     write_bytes(ffi::hns_write_addr, items, out)
 }
 
 /// An inv, a getdata or a notfound of flat items: kind 4, hash 32.
 #[inline]
-pub fn write_inventory(items: &[u8], out: &mut [u8]) -> Result<usize, Refusal> {
+pub fn write_inventory(items: &[u8], out: &mut (impl Output + ?Sized)) -> Result<usize, Refusal> {
     write_bytes(ffi::hns_write_inventory, items, out)
 }
 
 /// A getblocks or a getheaders of flat hashes.
 #[inline]
-pub fn write_locator(hashes: &[u8], stop: &[u8; 32], out: &mut [u8]) -> Result<usize, Refusal> {
+pub fn write_locator(
+    hashes: &[u8],
+    stop: &[u8; 32],
+    out: &mut (impl Output + ?Sized),
+) -> Result<usize, Refusal> {
     let (from, len) = (hashes.as_ptr(), hashes.len());
     // SAFETY: as above.
     length(out, |to, room, answer, n| unsafe {
@@ -57,7 +65,7 @@ pub fn write_locator(hashes: &[u8], stop: &[u8; 32], out: &mut [u8]) -> Result<u
 
 /// A headers packet of flat headers.
 #[inline]
-pub fn write_headers(items: &[u8], out: &mut [u8]) -> Result<usize, Refusal> {
+pub fn write_headers(items: &[u8], out: &mut (impl Output + ?Sized)) -> Result<usize, Refusal> {
     write_bytes(ffi::hns_write_headers, items, out)
 }
 
@@ -69,7 +77,7 @@ pub fn write_reject(
     reason: &[u8],
     present: bool,
     hash: &[u8; 32],
-    out: &mut [u8],
+    out: &mut (impl Output + ?Sized),
 ) -> Result<usize, Refusal> {
     let (text, len) = (reason.as_ptr(), reason.len());
     let hash = hash.as_ptr();
@@ -83,7 +91,7 @@ pub fn write_reject(
 
 /// A feefilter.
 #[inline]
-pub fn write_feefilter(rate: i64, out: &mut [u8]) -> Result<usize, Refusal> {
+pub fn write_feefilter(rate: i64, out: &mut (impl Output + ?Sized)) -> Result<usize, Refusal> {
     // SAFETY: as above.
     length(out, |to, room, answer, n| unsafe {
         ffi::hns_write_feefilter(rate, to, room, answer, n);
@@ -92,7 +100,11 @@ pub fn write_feefilter(rate: i64, out: &mut [u8]) -> Result<usize, Refusal> {
 
 /// A sendcmpct.
 #[inline]
-pub fn write_sendcmpct(mode: u8, version: u64, out: &mut [u8]) -> Result<usize, Refusal> {
+pub fn write_sendcmpct(
+    mode: u8,
+    version: u64,
+    out: &mut (impl Output + ?Sized),
+) -> Result<usize, Refusal> {
     // SAFETY: as above.
     length(out, |to, room, answer, n| unsafe {
         ffi::hns_write_sendcmpct(mode, version, to, room, answer, n);
@@ -104,7 +116,7 @@ pub fn write_sendcmpct(mode: u8, version: u64, out: &mut [u8]) -> Result<usize, 
 pub fn write_getblocktxn(
     hash: &[u8; 32],
     indexes: &[u64],
-    out: &mut [u8],
+    out: &mut (impl Output + ?Sized),
 ) -> Result<usize, Refusal> {
     let (from, len) = (indexes.as_ptr(), indexes.len());
     // SAFETY: as above.
@@ -115,7 +127,11 @@ pub fn write_getblocktxn(
 
 /// A getproof.
 #[inline]
-pub fn write_getproof(root: &[u8; 32], key: &[u8; 32], out: &mut [u8]) -> Result<usize, Refusal> {
+pub fn write_getproof(
+    root: &[u8; 32],
+    key: &[u8; 32],
+    out: &mut (impl Output + ?Sized),
+) -> Result<usize, Refusal> {
     // SAFETY: as above.
     length(out, |to, room, answer, n| unsafe {
         ffi::hns_write_getproof(root.as_ptr(), 32, key.as_ptr(), 32, to, room, answer, n);
@@ -124,7 +140,7 @@ pub fn write_getproof(root: &[u8; 32], key: &[u8; 32], out: &mut [u8]) -> Result
 
 /// Raw bytes: what is carried, and types without a name.
 #[inline]
-pub fn write_raw(payload: &[u8], out: &mut [u8]) -> Result<usize, Refusal> {
+pub fn write_raw(payload: &[u8], out: &mut (impl Output + ?Sized)) -> Result<usize, Refusal> {
     write_bytes(ffi::hns_write_raw, payload, out)
 }
 
@@ -155,7 +171,7 @@ pub type AddressFields = NetAddress;
 pub fn write_version(
     fields: &VersionFields,
     agent: &[u8],
-    out: &mut [u8],
+    out: &mut (impl Output + ?Sized),
 ) -> Result<usize, Refusal> {
     let remote = &fields.remote;
     let half = |at: usize| u64::from_le_bytes(remote.ip[at..at + 8].try_into().expect("8 bytes"));

@@ -9,19 +9,19 @@ use Rattle.hns_packet_rows.proofs.copy.Statement.{statement}
 use Rattle.hns_packet_rows.proofs.copy.Tie as tie
 
 abbrev Inv-loop : tie.InvT-loop
-Inv-loop answer₀ values n i₀ answer i = (i ≤ n) × ((length answer ≡ length answer₀) × (answer ≡ paste answer₀ 0 values i))
+Inv-loop answer₀ n values i₀ answer i = (i ≤ n) × ((length answer ≡ length answer₀) × (answer ≡ paste answer₀ 0 values i))
 
 abbrev μ-loop : tie.MeasureT-loop
-μ-loop answer₀ values n i₀ answer i = n - i
+μ-loop answer₀ n values i₀ answer i = n - i
 
 loop-holds : tie.Need-loop-holds Inv-loop μ-loop
-loop-holds c = let a = c .args in (omega arith, (refl, paste-zero (a .answer .now) 0 (a .values .now)))
+loop-holds c = (omega arith, (refl, paste-zero (c .args .answer .now) 0 (c .args .t2)))
 
 mul-answer : tie.Need-mul-answer Inv-loop μ-loop
 mul-answer c = omega arith
 
-shared-slice-read-answer : tie.Need-shared-slice-read-answer Inv-loop μ-loop
-shared-slice-read-answer c = omega arith
+array-read-answer : tie.Need-array-read-answer Inv-loop μ-loop
+array-read-answer c = omega arith
 
 mul-answer-2 : tie.Need-mul-answer-2 Inv-loop μ-loop
 mul-answer-2 c = omega arith
@@ -37,9 +37,9 @@ loop-less c = omega arith
 
 loop-again : tie.Need-loop-again Inv-loop μ-loop
 loop-again c =
-    let a = c .before .before .before .args in
-    let l = c .before .before .loop in
-    (omega arith, (length-set (l .answer) _ _ ∙ l .inv .1 .0, rw (l .inv .1 .1) (stored-more (a .answer .now) (a .values .now) (l .i) (omega arith) (omega arith))))
+    let a = c .before .before .args in
+    let l = c .before .loop in
+    (omega arith, (length-set (l .answer) _ _ ∙ l .inv .1 .0, rw (l .inv .1 .1) (stored-more (a .answer .now) (a .t2) (l .i) (omega arith) (omega arith))))
 
 same-length : tie.Need-same-length Inv-loop μ-loop
 same-length c = c .before .loop .inv .1 .0
@@ -58,7 +58,7 @@ copy-spec =
     μ-loop
     loop-holds
     mul-answer
-    shared-slice-read-answer
+    array-read-answer
     mul-answer-2
     slice-write-answer
     add-i
