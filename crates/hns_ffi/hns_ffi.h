@@ -1,21 +1,28 @@
-/* The proved Handshake codec for C: numbers and bytes in, rows of six numbers out.
+/* The proved Handshake codec for C: numbers and bytes in, rows of numbers out.
  *
- * Link with libhns_ffi.a, for frames and the stream with libhns_ffi_frames.a as well, and for packets
- * with libhns_ffi_packets.a (reading) and libhns_ffi_writers.a: `rt staticlib hns_ffi` writes the first,
- * and so on.
+ * Four libraries, of which a program links those that it uses. `rt staticlib NAME` writes
+ * target/staticlib/libNAME.a:
+ *
+ *   hns_ffi          reads, puts, headers
+ *   hns_ffi_frames   frames and the stream
+ *   hns_ffi_packets  packets: reading, items, finder, length card, rewriting
+ *   hns_ffi_writers  packets: a writer for each
  *
  * What the caller must see to, since no proof reaches beyond the call:
  *
  *   - a slice is a pointer that is not null, also for no bytes, and a count of things that are all
  *     there, fewer than 2^63 bytes together, and may be written where the pointer is not to const;
  *   - numbers (uint64_t) are aligned as such;
- *   - a slice that may be written overlaps no other slice of the call.
+ *   - a slice that may be written overlaps no other slice of the call;
+ *   - hns_rewrite has arrays of about 200,000 bytes on the stack, the others less than 1,000.
  *
- * No call asks more. None keeps a pointer, allocates, or touches anything but what it is lent.
+ * No call asks more. None keeps a pointer, allocates, or touches anything but what it is lent. A call
+ * that is refused writes its row and nothing else; only a push refused by 4 or 5 has added its input
+ * to the store.
  *
- * A row is six numbers at the front of `answer`; what does not fit is dropped. Its first is 0,
- * and what was answered follows, or it is the number of a refusal, and its values a, b, c follow.
- * The rest is 0:
+ * A row is six numbers at the front of `answer`, or sixteen where that is said; what does not fit is
+ * dropped. Its first is 0, and what was answered follows, or it is the number of a refusal, and its
+ * values a, b, c follow. The rest is 0. Rows of six:
  *
  *   numbers          0, value, next place
  *   compact sizes    0, how many, next place
@@ -30,14 +37,13 @@
  *                    refusal, a, b, c, held count
  *   rewrite, writers 0, length of the payload
  *
- * Packets, items, indexes, the finder and the length card have rows of sixteen. A place counts from the
- * payload's first byte:
+ * Rows of sixteen, about packets. A place counts from the payload's first byte:
  *
  *   version (0)      0, version, services, time, the remote's time and services, first and last 8 bytes
  *                    of its ip as numbers, port, place of its key, nonce, place and length of the agent,
  *                    height, no-relay
- *   empty            0
- *   ping, pong       0, nonce
+ *   empty (1, 4, 12, 16, 19)  0
+ *   ping, pong (2, 3)         0, nonce
  *   lists (5 to 8, 11)        0, count, place of the first item
  *   locators (9, 10)          0, count, place of the first hash, place of the stop hash
  *   reject (15)      0, type, code, place and length of the reason, 1 and the place of a hash, or 0
@@ -48,18 +54,21 @@
  *   all others       0, place and length of the bytes
  *   item             of 5: 0, time, services, first and last 8 bytes of the ip, port, place of the key
  *                    of 6 to 8: 0, kind, place of the hash; of 9 to 11: 0, place; of 24: 0, index
- *   indexes, item numbers     0, how many
+ *   indexes, item numbers     0, how many numbers
  *   finder           0, 1, place of the item in the list; 0, 0 where the hash stands nowhere
  *   length card      0, least, greatest
  *
+ * Bytes that are numbers, here and in flat items, have the lowest first: of an ip's eight bytes the first
+ * is the lowest.
+ *
  * Refusals: 1 bytes end in a field (a place, b missing); 2 compact size not shortest (a bits);
  * 3 bytes left (a how many); 4 magic (a expected, b found); 5 payload too large (a, b limit);
- * 6 held and input too large (a, b limit); 7 over a limit (a, b limit); 8 incomplete frame
- * (a missing); 9 index over 65,535; 10 text over 127; 11 hash against the type; 12 too many indexes
- * (a, b limit); 13 index to write over 65,535 (a place); 14 index not above the one before it
- * (a place); 15 header length (a); 16 output too short (a needed); 17 store
- * too short (a needed); 18 held count over the store (a held); 19 no item at the place. Of 7, c is
- * 1 address, 2 inventory, 3 locator, 4 header, 5 index count, 6 index, 7 agent, 8 reason.
+ * 6 held and input too large (a, b limit); 7 over a limit (a, b limit, c field); 8 incomplete frame
+ * (a missing); 9 index over 65,535; 10 text over 127 (c field); 11 hash against the type; 12 too many
+ * indexes (a, b limit); 13 index to write over 65,535 (a place); 14 index not above the one before it
+ * (a place); 15 header length (a); 16 output too short (a needed); 17 store too short (a needed);
+ * 18 held count over the store (a held); 19 no item at the place. Fields: 1 address, 2 inventory,
+ * 3 locator, 4 header, 5 index count, 6 index, 7 agent, 8 reason; 0 where the caller gave the limit.
  *
  * Networks: 0 mainnet, 1 testnet, 2 regtest, 3 simnet. A greater number is taken as simnet, not refused.
  */
@@ -114,8 +123,8 @@ size_t hns_put_varbytes(const uint8_t *value, size_t value_len,
                         uint8_t *out, size_t out_len, size_t position);
 
 /* Headers. The hashes stand side by side, 216 bytes: previous block 32, tree root 32, extra
- * nonce 24, reserved root 32, witness root 32, merkle root 32, mask 32. A refused read leaves
- * them alone; a hash to put that is not all there is put as zeros, and not refused. */
+ * nonce 24, reserved root 32, witness root 32, merkle root 32, mask 32. A hash to put that is not
+ * all there is put as zeros, and not refused. */
 void hns_decode_header(const uint8_t *input, size_t input_len,
                        uint8_t *hashes, size_t hashes_len,
                        uint64_t *answer, size_t answer_len);
@@ -148,38 +157,47 @@ void hns_read_packet(uint8_t packet_type, const uint8_t *payload, size_t payload
 void hns_item(uint8_t packet_type, const uint8_t *payload, size_t payload_len, size_t place,
               uint64_t *answer, size_t answer_len);
 /* All indexes of a getblocktxn payload. The payload's own refusal comes first, then 16, which counts the
- * numbers that `out` must have; a refusal leaves `out` alone. */
+ * numbers that `out` must have; 16,662 are always enough. */
 void hns_indexes(const uint8_t *payload, size_t payload_len, uint64_t *out, size_t out_len,
                  uint64_t *answer, size_t answer_len);
 /* The numbers of all addresses or inventory items side by side, as in the rows of hns_item: six numbers
- * or two for each, and none for other types. Answers how many numbers; refused as hns_indexes is. A call
- * for each item costs more than the item, so this is for whole lists. */
+ * or two for each, and none for other types. Refused as hns_indexes is; 6,000 numbers are always enough
+ * for addresses, 100,000 for inventory items. A call for each item costs more than the item, so this is
+ * for whole lists. */
 void hns_item_numbers(uint8_t packet_type, const uint8_t *payload, size_t payload_len,
                       uint64_t *out, size_t out_len, uint64_t *answer, size_t answer_len);
-/* A place where a hash of 32 bytes stands among the inventory items. */
+/* A place where a hash of 32 bytes stands among the inventory items. A hash of fewer bytes is taken as
+ * zeros. */
 void hns_find(uint8_t packet_type, const uint8_t *payload, size_t payload_len,
               const uint8_t *hash, size_t hash_len, uint64_t *answer, size_t answer_len);
+/* The least and the greatest length of the payloads that read as a type. */
 void hns_length_card(uint8_t packet_type, uint64_t *answer, size_t answer_len);
 /* A payload read as a packet and written again by the writer of its type. */
 void hns_rewrite(uint8_t packet_type, const uint8_t *payload, size_t payload_len,
                  uint8_t *out, size_t out_len, uint64_t *answer, size_t answer_len);
 
-/* Writers: a payload to the front of `out`. Addresses are items of 67 bytes (time 8, services 8, ip 16,
- * port 2, key 33), inventory items of 36, hashes of 32, headers of 236; bytes after the last whole item
- * are not written. A hash of 32 bytes or a key of 33 is the front of a slice. An ip is two numbers, as
- * in the row of a version. */
+/* Writers, each for the packet of its name or for those that are said: a payload to the front of `out`.
+ * Addresses are items of 67 bytes (time 8, services 8, ip 16, port 2, key 33), inventory items of 36
+ * (kind 4, hash 32), hashes of 32, headers of 236; bytes after the last whole item are not written. A hash
+ * of 32 bytes or a key of 33 is the front of a slice, and zeros where it has fewer bytes. An ip is two
+ * numbers, as in the row of a version. Of services the low 32 bits are written. */
+/* verack, getaddr, sendheaders, mempool, filterclear */
 void hns_write_empty(uint8_t *out, size_t out_len, uint64_t *answer, size_t answer_len);
+/* ping, pong */
 void hns_write_nonce(uint64_t nonce, uint8_t *out, size_t out_len,
                      uint64_t *answer, size_t answer_len);
 void hns_write_addr(const uint8_t *items, size_t items_len, uint8_t *out, size_t out_len,
                     uint64_t *answer, size_t answer_len);
+/* inv, getdata, notfound */
 void hns_write_inventory(const uint8_t *items, size_t items_len, uint8_t *out, size_t out_len,
                          uint64_t *answer, size_t answer_len);
+/* getblocks, getheaders */
 void hns_write_locator(const uint8_t *hashes, size_t hashes_len,
                        const uint8_t *stop, size_t stop_len, uint8_t *out, size_t out_len,
                        uint64_t *answer, size_t answer_len);
 void hns_write_headers(const uint8_t *items, size_t items_len, uint8_t *out, size_t out_len,
                        uint64_t *answer, size_t answer_len);
+/* reject, with the hash where it is said to be present */
 void hns_write_reject(uint8_t message, uint8_t code, const uint8_t *reason, size_t reason_len,
                       bool present, const uint8_t *hash, size_t hash_len,
                       uint8_t *out, size_t out_len, uint64_t *answer, size_t answer_len);
@@ -187,11 +205,13 @@ void hns_write_feefilter(int64_t rate, uint8_t *out, size_t out_len,
                          uint64_t *answer, size_t answer_len);
 void hns_write_sendcmpct(uint8_t mode, uint64_t version, uint8_t *out, size_t out_len,
                          uint64_t *answer, size_t answer_len);
+/* getblocktxn of indexes that rise */
 void hns_write_getblocktxn(const uint8_t *hash, size_t hash_len,
                            const uint64_t *indexes, size_t indexes_len,
                            uint8_t *out, size_t out_len, uint64_t *answer, size_t answer_len);
 void hns_write_getproof(const uint8_t *root, size_t root_len, const uint8_t *key, size_t key_len,
                         uint8_t *out, size_t out_len, uint64_t *answer, size_t answer_len);
+/* all others */
 void hns_write_raw(const uint8_t *payload, size_t payload_len, uint8_t *out, size_t out_len,
                    uint64_t *answer, size_t answer_len);
 void hns_write_version(uint32_t version, uint64_t services, uint64_t time, uint64_t remote_time,
