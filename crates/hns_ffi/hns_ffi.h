@@ -14,7 +14,7 @@
  *     there, fewer than 2^63 bytes together, and may be written where the pointer is not to const;
  *   - numbers (uint64_t) are aligned as such;
  *   - a slice that may be written overlaps no other slice of the call;
- *   - hns_rewrite has arrays of about 200,000 bytes on the stack, the others less than 1,000.
+ *   - hns_rewrite takes about 134,000 bytes of stack, the others less than 1,000.
  *
  * No call asks more. None keeps a pointer, allocates, or touches anything but what it is lent. A call
  * that is refused writes its row and nothing else; only a push refused by 4 or 5 has added its input
