@@ -26,14 +26,14 @@ use Rattle.hns_p2p_types.specs.declared.Listing.the-variants as L
 use Rattle.hns_p2p_types.specs.declared.Stored.{Stored}
 use Rattle.hns_p2p_types.specs.declared.Stored.the-variants as S
 use Rattle.hns_p2p_types.proofs.Listing as listings
-use Rattle.hns_p2p_types.specs.Packets.{addressIn}
+use Rattle.hns_p2p_types.specs.Packets.{addressIn, addressNumbers, inventoryNumbers}
 use Rattle.hns_p2p_blocks.proofs.Addresses.{address-is}
 use Rattle.hns_p2p_items.specs.Items.{Element, anAddress, anInventory, aHash, aHeader, anIndex, Listed, sizeOf, answer, answerAt, listedOf}
 use Rattle.hns_p2p_items.specs.Listings.{listingOf, Records, Holds, HeldBy}
 use Rattle.hns_p2p_items.proofs.Held.{held-by, refused-held}
 use Rattle.hns_p2p_indexes.specs.Indexes.{Answer, fitted}
 use Rattle.hns_p2p_indexes.proofs.Storing.{splice-none, splice-cons}
-use Rattle.hns_p2p_item_numbers.specs.Numbers.{addressNumbers, inventoryNumbers, itemNumbers, numbersAfter, numbersBy, numbersOf}
+use Rattle.hns_p2p_item_numbers.specs.Numbers.{itemNumbers, numbersAfter, numbersBy, numbersOf}
 use Rattle.hns_p2p_item_numbers.specs.Helpers.{bytesOf, manyOf, numbersAt, numbersFrom}
 
 -- ---- stores one after another

@@ -3,8 +3,7 @@ use Prim.Native.Nat.{ℕ, zero, suc, _+_}
 use mathlib.Core.Bool.{Bool, true, false}
 use mathlib.Core.List.{List, [], _++_}
 use Rattle.hns_encoding.specs.Bytes.{numberAt}
-use Rattle.hns_p2p_types.specs.Packets.{addressIn}
-use Rattle.hns_p2p_item_numbers.specs.Numbers.{addressNumbers, inventoryNumbers}
+use Rattle.hns_p2p_types.specs.Packets.{addressIn, addressNumbers, inventoryNumbers}
 
 -- addresses, or inventory items: bytes of one, and numbers of one
 abbrev pub bytesOf : Bool → ℕ

@@ -18,7 +18,7 @@ ghost use mathlib.Core.List.{_∷_, []};
 ghost use Prim.Native.Nat.{_≤_};
 ghost use lib.ListN.{length};
 ghost use lib.Seq.{paste};
-ghost use Rattle.hns_p2p_item_numbers.specs.Numbers.{addressNumbers};
+ghost use Rattle.hns_p2p_types.specs.Packets.{addressNumbers};
 ghost use Rattle.hns_rows.specs.Rows.{answered};
 ghost use Rattle.hns_packet_rows.specs.Rows.{row, refusedRow, itemsRow, spanRow, bit, versionRow, hashNumbers, packetRow, itemRow, foundRow, storedRow, cardNumbers};
 
