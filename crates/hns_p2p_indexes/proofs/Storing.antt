@@ -3,7 +3,7 @@ use Prim.Native.Nat.{ℕ, suc, _+_, _-_, _*_, _≤_, _<_}
 use mathlib.Core.Path.{_≡_, refl, sym, ap, _∙_, subst}
 use mathlib.Core.List.{List, [], _∷_}
 use native.Mathlib.Omega.{arith}
-use lib.ListN.{length, getD, set, length-set, take-append-drop}
+use lib.ListN.{length, getD, set, length-set}
 use lib.Dec.{leb}
 use borrow.Author.Tests.{le-leb, lt-leb, leb-true}
 use denote.Enum.Declared.{tagOf}
@@ -16,7 +16,7 @@ use Rattle.hns_encoding.specs.Compact.{wideAt, compactFrom, compactAt, countAt}
 use Rattle.hns_encoding.specs.Format.{Value, read, indexesFrom}
 use Rattle.hns_encoding.specs.Put.{splice}
 use Rattle.hns_encoding.proofs.Outcomes.{after-got, choose-got, bytes-got, byte-got, toEnd-got, count-got}
-use Rattle.hns_encoding.proofs.Puts.{splice-fits, splice-append, splice-byte}
+use Rattle.hns_encoding.proofs.Puts.{splice-none, splice-cons}
 use Rattle.hns_encoding.proofs.Forms.{Wide, two, four, eight, wide-from, First as FirstByte, alone, leads, first}
 use Rattle.hns_encoding.proofs.Reading.{number-there}
 use Rattle.hns_p2p_differences.proofs.Differences.{one-byte, two-number}
@@ -127,15 +127,6 @@ module _ (k base : ℕ) (s : List ℕ) (p : ℕ) (r : Reads (suc k) base s p) wh
       let same-d : f .d ≡ d = cc in
       let same-next : f .next ≡ next = cc in
       subst (λ (n : ℕ). Turn k base s p d n) same-next (subst (λ (n : ℕ). Turn k base s p n (f .next)) same-d (made-turn k base s p f))
-
-pub splice-none : (o : List ℕ) (p : ℕ) → splice o p [] ≡ o
-splice-none o p =
-    let here : p + 0 ≡ p = omega arith in
-    splice-fits o p [] (omega arith) ∙ rw here (take-append-drop p o)
-
--- one more to an output
-pub splice-cons : (o : List ℕ) (p x : ℕ) (xs : List ℕ) → splice o p (x ∷ xs) ≡ splice (set o p x) (p + 1) xs
-splice-cons o p x xs = splice-append o p (x ∷ []) xs ∙ ap (λ (l : List ℕ). splice l (p + 1) xs) (splice-byte o p x)
 
 module _ {count : ℕ} {s : List ℕ} {first : ℕ} {o₀ o : List ℕ} {i base next : ℕ} (t : StoredTo count s first o₀ o i base next) where
   module _ (h : i < count) where

@@ -16,7 +16,7 @@ use Rattle.hns_refusals.specs.Refusals.{outputShort}
 use Rattle.hns_encoding.specs.Bytes.{Bytes, numberAt, Outcome, got, stop}
 use Rattle.hns_encoding.specs.Format.{Format, raw, whole, Value, size, Fixed, fixedFlat, valueAt, valuesAt}
 use Rattle.hns_encoding.specs.Put.{splice}
-use Rattle.hns_encoding.proofs.Puts.{splice-append, length-splice}
+use Rattle.hns_encoding.proofs.Puts.{splice-none, splice-append, splice-cons, length-splice}
 use Rattle.hns_header_consensus.specs.Layout.{header}
 use Rattle.hns_p2p_types.specs.Protocol.{address, inventoryItem}
 use Rattle.hns_p2p_types.specs.declared.NetAddress.{NetAddress}
@@ -32,7 +32,6 @@ use Rattle.hns_p2p_items.specs.Items.{Element, anAddress, anInventory, aHash, a
 use Rattle.hns_p2p_items.specs.Listings.{listingOf, Records, Holds, HeldBy}
 use Rattle.hns_p2p_items.proofs.Held.{held-by, refused-held}
 use Rattle.hns_p2p_indexes.specs.Indexes.{Answer, fitted}
-use Rattle.hns_p2p_indexes.proofs.Storing.{splice-none, splice-cons}
 use Rattle.hns_p2p_item_numbers.specs.Numbers.{itemNumbers, numbersAfter, numbersBy, numbersOf}
 use Rattle.hns_p2p_item_numbers.specs.Helpers.{bytesOf, manyOf, numbersAt, numbersFrom}
 
