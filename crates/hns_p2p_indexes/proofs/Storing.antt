@@ -9,7 +9,7 @@ use borrow.Author.Tests.{le-leb, lt-leb, leb-true}
 use denote.Enum.Declared.{tagOf}
 use types.Run.{OneOf, miss}
 use Rattle.hns_refusals.specs.declared.Refusal.{Refusal}
-use Rattle.hns_refusals.specs.Limits.{maxPayload, maxIndex}
+use Rattle.hns_refusals.specs.Limits.{maxIndex}
 use Rattle.hns_refusals.specs.Refusals.{outputShort, indexField}
 use Rattle.hns_encoding.specs.Bytes.{le, Bytes, Outcome, got, stop, bytesAt, leAt, numberAt}
 use Rattle.hns_encoding.specs.Compact.{wideAt, compactFrom, compactAt, countAt}
@@ -20,6 +20,7 @@ use Rattle.hns_encoding.proofs.Puts.{splice-none, splice-cons}
 use Rattle.hns_encoding.proofs.Forms.{Wide, two, four, eight, wide-from, First as FirstByte, alone, leads, first}
 use Rattle.hns_encoding.proofs.Reading.{number-there}
 use Rattle.hns_p2p_differences.proofs.Differences.{one-byte, two-number}
+use Rattle.hns_p2p_types.proofs.Payloads.{by-got}
 use Rattle.hns_p2p_types.specs.Protocol.{getblocktxn, always, readBy}
 use Rattle.hns_p2p_types.specs.declared.Items.{Items}
 use Rattle.hns_p2p_types.specs.declared.Listing.{Listing}
@@ -174,7 +175,7 @@ seen s bs = go (readBy (always getblocktxn) s) refl
   where
     go : (o : Outcome (Value getblocktxn)) → readBy (always getblocktxn) s ≡ o → Seen s (listIn (answered (λ v. P.GetBlockTxn (record { «block_hash» = 0; indexes = itemsAt 32 (v .1) })) o)) o
     go (got v last) e =
-        let k = choose-got (leb (length s) maxPayload) _ _ e in
+        let k = by-got (always getblocktxn) s e in
         (refl, indexed-there s bs v (toEnd-got (read getblocktxn) s (k .1) .0))
     go (stop r) e = refl
 
