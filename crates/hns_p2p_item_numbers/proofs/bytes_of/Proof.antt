@@ -1,4 +1,3 @@
-use mathlib.Core.Path.{_≡_}
 use Rattle.hns_p2p_item_numbers.proofs.bytes_of.Statement.{statement}
 use Rattle.hns_p2p_item_numbers.proofs.bytes_of.Tie as tie
 
