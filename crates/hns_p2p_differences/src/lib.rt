@@ -118,7 +118,7 @@ fn index_before(base: u64) -> u64
 
 // So many differences from a place on: each index is the one before, its difference and one more.
 pub fn pass_indexes(payload: &[u8], count: u64, first: usize) -> Passed
-    ensures { λ r. ⌜ r ≡ passedOf 0 (indexesFrom count 0 (now (payload .entry)) first) ⌝ }
+    ensures { λ r. ⌜ r ≡ passedOf (indexesFrom count 0 (now (payload .entry)) first) ⌝ }
 {
     let mut i: u64 = 0;
     let mut base: u64 = 0;
