@@ -1,14 +1,15 @@
 -- A format without counts reads as one block, whose widths its texts and tags say: its value where it fits, else the refusal of the first read that does not fit. One of fixed size writes as many bytes as it reads.
-use Prim.Native.Nat.{ℕ, zero, suc, _+_, _-_, _≤_, _<_}
+use Prim.Native.Nat.{ℕ, zero, suc, _+_, _-_, _*_, _≤_, _<_}
 use mathlib.Core.Path.{_≡_, refl, ap}
 use mathlib.Core.List.{List, [], _∷_, _++_, map}
 use mathlib.Core.Logic.{⊎-elim}
 use native.Mathlib.Omega.{arith}
+use native.Mathlib.Nat.{suc-mul}
 use lib.ListN.{length, length-append, length-replicate}
 use lib.Dec.{eqb}
 use borrow.Author.Tests.{le-leb, lt-leb}
 use Rattle.hns_encoding.specs.Bytes.{Outcome, got, stop, after, part, left, bytesAt, leAt, numberAt, toEnd}
-use Rattle.hns_encoding.specs.Format.{Format, nothing, num, raw, reserved, host, flag, text, counted, indexes, whole, tagged, _▸_, read, write, low7, ipOf, widths, sum, size, Fixed, fixedFlat, widthsAt, short, valueAt, valuesAt}
+use Rattle.hns_encoding.specs.Format.{Format, nothing, num, raw, reserved, host, flag, text, counted, indexes, whole, tagged, _▸_, read, write, low7, ipOf, widths, sum, size, Fixed, fixedFlat, widthsAt, short, valueAt, valuesAt, Value, All, Fit, writeAll}
 use Rattle.hns_encoding.specs.Laws.{Block, ReadsAsBlock, WritesAsMany}
 use Rattle.hns_encoding.proofs.Numbers.{lt-or-ge, length-leBytes, part-length}
 use Rattle.hns_encoding.proofs.Outcomes.{bytes-fits, bytes-short, toEnd-fits}
@@ -142,6 +143,11 @@ fixed-length indexes x v h = absurd x
 fixed-length (whole n f) x v h = omega (arith, h .0)
 fixed-length (tagged k) x v h = absurd x
 fixed-length (f ▸ g) x v h = rw (length-append, sum-append, fixed-length f (x .0) (v .0) (h .0), fixed-length g (x .1) (v .1) (h .1))
+
+pub length-all : (f : Format) → Fixed f → (vs : List (Value f)) → All (Fit f) vs → length (writeAll (write f) vs) ≡ length vs * size f
+length-all f x [] g = omega arith
+length-all f x (v ∷ vs) g =
+    omega (arith, length-append (write f v) (writeAll (write f) vs), fixed-length f x v (g .0), length-all f x vs (g .1), suc-mul (length vs) (size f))
 
 -- ---- values of a fixed size, one after another
 

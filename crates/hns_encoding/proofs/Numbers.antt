@@ -6,7 +6,7 @@ use mathlib.Core.Logic.{_⊎_, inl, inr}
 use native.Mathlib.Omega.{arith}
 use native.Mathlib.Nat.{pow-suc, div-div-eq-div-mul, mul-comm, mod-add-div}
 use native.Mathlib.Decide.{decLt}
-use lib.ListN.{length, take, drop, getD, length-drop}
+use lib.ListN.{length, take, drop, getD, replicate, length-drop}
 use lib.Seq.{take-add, drop-drop, length-take-le, drop-cons}
 use Rattle.hns_encoding.specs.Bytes.{le, leBytes, Bytes, none, byte, part}
 
@@ -80,6 +80,10 @@ bytes-take (suc n) (byte b h) = byte b (bytes-take n h)
 pub bytes-append : {xs ys : List ℕ} → Bytes xs → Bytes ys → Bytes (xs ++ ys)
 bytes-append none g = g
 bytes-append (byte b h) g = byte b (bytes-append h g)
+
+pub bytes-zeros : (n : ℕ) → Bytes (replicate n 0)
+bytes-zeros zero = none
+bytes-zeros (suc n) = byte {b = 0} (omega arith) (bytes-zeros n)
 
 pub byte-below : (s : List ℕ) → Bytes s → (p : ℕ) → p < length s → getD s p 0 < 256
 byte-below [] bs p h = absurd (omega arith)

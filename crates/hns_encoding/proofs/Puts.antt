@@ -65,9 +65,15 @@ length-splice o p x = rw splice-sets (length-sets o p x)
 pub splice-byte : (o : List ℕ) (p b : ℕ) → splice o p (b ∷ []) ≡ set o p b
 splice-byte o p b = splice-sets o p (b ∷ [])
 
+pub splice-none : (o : List ℕ) (p : ℕ) → splice o p [] ≡ o
+splice-none o p = splice-sets o p []
+
 -- x and then y from where x ended
 pub splice-append : (o : List ℕ) (p : ℕ) (x y : List ℕ) → splice o p (x ++ y) ≡ splice (splice o p x) (p + length x) y
 splice-append o p x y = simp splice-sets (sets-append o p x y)
+
+pub splice-cons : (o : List ℕ) (p x : ℕ) (xs : List ℕ) → splice o p (x ∷ xs) ≡ splice (set o p x) (p + 1) xs
+splice-cons o p x xs = splice-append o p (x ∷ []) xs ∙ ap (λ (l : List ℕ). splice l (p + 1) xs) (splice-byte o p x)
 
 -- a copy of as many bytes as fit
 pub splice-paste : (o : List ℕ) (p : ℕ) (x : List ℕ) → paste o p x (min (length x) (length o - p)) ≡ splice o p x

@@ -44,7 +44,8 @@ pub fn first(bytes: &[u8], n: usize) -> &[u8]
     if n < bytes.len() { &bytes[..n] } else { bytes }
 }
 
-fn wide(x: u8) -> u64
+// A byte as a number to count with: its bound is told with it.
+pub fn wide(x: u8) -> u64
     ensures { λ r. ⌜ (r ≡ x) × (r < 256) ⌝ }
 {
     x as u64

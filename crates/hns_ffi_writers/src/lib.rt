@@ -4,8 +4,6 @@ use hns_p2p_types::NetAddress;
 use hns_p2p_types::Span;
 use hns_p2p_types::VersionPacket;
 ghost use mathlib.Core.Path.{_≡_};
-ghost use Prim.Native.Nat.{_<_};
-ghost use lib.Dec.{ltb};
 ghost use Rattle.hns_encoding.specs.Bytes.{rawAt};
 ghost use Rattle.hns_p2p_fields.specs.Fields.{versionFieldsIn};
 ghost use Rattle.hns_p2p_writer.specs.Writers.{givesVersion, givesEmpty, givesNonce, givesAddr, givesInventory, givesLocator, givesHeaders, givesReject, givesFeeFilter, givesSendCmpct, givesGetBlockTxn, givesGetProof, givesRaw};

@@ -40,7 +40,8 @@ fn put_host(encoder: Encoder, out: &mut [u8], ip: &[u8]) -> Encoder
     e.put_bytes(out, &zeros)
 }
 
-pub fn put_address(
+// Of an ip of 16 bytes and a key of 33, which only address_block lends.
+fn put_address(
     encoder: Encoder,
     out: &mut [u8],
     time: u64,
@@ -105,7 +106,7 @@ fn put_cut(encoder: Encoder, out: &mut [u8], fields: AddressFields) -> Encoder
     encoder.put_bytes(out, &block)
 }
 
-// As put_address, by one test of the whole block.
+// An address by one test of its 88 bytes' room.
 pub fn put_address_fields(encoder: Encoder, out: &mut [u8], fields: AddressFields) -> Encoder
     ensures { λ r. ⌜ Put (now (out .entry)) (encoder .position) (write address (addressOf fields)) (now (out .exit)) (r .position) ⌝ }
 {

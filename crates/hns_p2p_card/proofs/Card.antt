@@ -5,18 +5,18 @@ use mathlib.Core.List.{List, [], _∷_}
 use mathlib.Core.Bool.{Bool, true, false}
 use native.Mathlib.Omega.{arith}
 use lib.ListN.{length, getD, replicate, length-replicate}
-use lib.Dec.{leb}
-use borrow.Author.Tests.{le-leb, leb-true}
 use Rattle.hns_refusals.specs.Limits.{maxPayload, blockHeaderSize}
 use Rattle.hns_refusals.specs.Refusals.{agentField, reasonField}
 use Rattle.hns_encoding.specs.Bytes.{choose, toEnd}
 use Rattle.hns_encoding.specs.Format.{Format, nothing, num, raw, reserved, flag, whole, text, _▸_, read, write, size, Fixed}
-use Rattle.hns_encoding.proofs.Outcomes.{choose-got, toEnd-got, toEnd-fits}
+use Rattle.hns_encoding.proofs.Numbers.{bytes-zeros}
+use Rattle.hns_encoding.proofs.Outcomes.{toEnd-got, toEnd-fits}
 use Rattle.hns_encoding.proofs.Back.{back, toEnd-back}
 use Rattle.hns_encoding.proofs.Forward.{forward}
 use Rattle.hns_encoding.proofs.Rewritten.{rewritten}
 use Rattle.hns_encoding.proofs.Blocks.{block-fits}
 use Rattle.hns_header_consensus.specs.Layout.{header}
+use Rattle.hns_p2p_types.proofs.Payloads.{by-got, by-reads}
 use Rattle.hns_p2p_types.specs.declared.Packet.the-variants as P
 use Rattle.hns_p2p_types.specs.Protocol as protocol
 use Rattle.hns_p2p_types.specs.Protocol.{Layout, always, readBy, address, inventoryItem, version, addresses, inventory, locator, headers, carriesHash, reject}
@@ -24,20 +24,16 @@ use Rattle.hns_p2p_types.specs.Packets as packets
 use Rattle.hns_p2p_types.specs.Packets.{_&_, rawBytes}
 use Rattle.hns_p2p_card.specs.declared.Row.{Row}
 use Rattle.hns_p2p_card.specs.Card.{row, exactly, anyBytes, rows, cardRow, Reads, Occurs, Right, Card, Unique, Only}
-use Rattle.hns_p2p_card.proofs.Widths.{bytes-zeros}
 use Rattle.hns_p2p_card.proofs.Spans.{Writes, Within, Spans, fixed, text-spans, counted-spans, indexes-spans, tagged-spans, _then_}
 
 -- ---- what reads by a layout
 
--- what reads is no longer than a payload may be
 module _ (l : Layout) (s : List ℕ) where
   small : Reads (readBy l s) → (length s ≤ maxPayload) × Reads (toEnd (read (l (length s))) s)
-  unfolding readBy
-  small a = let g = choose-got (leb (length s) maxPayload) _ _ (a .2) in (leb-true _ _ (g .0), (a .0, a .1, g .1))
+  small a = let g = by-got l s (a .2) in (g .0, (a .0, a .1, g .1))
 
   read-small : length s ≤ maxPayload → Reads (toEnd (read (l (length s))) s) → Reads (readBy l s)
-  unfolding readBy
-  read-small h a = (a .0, a .1, simp (le-leb _ _ h) (a .2))
+  read-small h a = (a .0, a .1, by-reads l s h (a .2))
 
 -- what a format can write is accepted
 written-occurs : {f : Format} {n : ℕ} → n ≤ maxPayload → Writes f n → Occurs (λ s. Reads (readBy (always f) s)) n

@@ -1,7 +1,7 @@
 -- How long the values of a format are written, for each way that formats are made.
 use Prim.Native.Nat.{ℕ, zero, suc, _+_, _*_, _≤_, _<_}
 use mathlib.Core.Path.{_≡_, ap, _∙_}
-use mathlib.Core.List.{List, [], _∷_}
+use mathlib.Core.List.{List}
 use native.Mathlib.Omega.{arith}
 use native.Mathlib.Nat.{mul-le-mul-right}
 use lib.ListN.{length, replicate, length-append, length-replicate}
@@ -10,12 +10,12 @@ use Rattle.hns_encoding.specs.Bytes.{Bytes, none, byte}
 use Rattle.hns_encoding.specs.Compact.{compactBytes}
 use Rattle.hns_encoding.specs.Format.{Format, text, counted, indexes, tagged, _▸_, Value, read, write, writeAll, All, Fit, size, Fixed, fixedFlat, valueAt}
 use Rattle.hns_encoding.specs.Marks.{marks}
-use Rattle.hns_encoding.proofs.Numbers.{bytes-append}
+use Rattle.hns_encoding.proofs.Numbers.{bytes-append, bytes-zeros}
 use Rattle.hns_encoding.proofs.Outcomes.{toEnd-fits}
 use Rattle.hns_encoding.proofs.Forward.{forward}
 use Rattle.hns_encoding.proofs.Rewritten.{rewritten}
-use Rattle.hns_encoding.proofs.Blocks.{block-fits, fixed-length}
-use Rattle.hns_p2p_card.proofs.Widths.{bytes-zeros, bytes-marked, narrow, wider, width}
+use Rattle.hns_encoding.proofs.Blocks.{block-fits, fixed-length, length-all}
+use Rattle.hns_p2p_card.proofs.Widths.{bytes-marked, narrow, wider, width}
 use Rattle.hns_p2p_card.proofs.Indexes.{spent, spread, spread-is}
 
 -- a value that is written in n bytes
@@ -77,10 +77,6 @@ text-spans field = record { within = λ v h. (omega arith, omega (arith, h .0));
 -- ---- counted items of fixed size
 
 module _ (f : Format) (x : Fixed f) where
-  items-length : (v : List (Value f)) → All (Fit f) v → length (writeAll (write f) v) ≡ length v * size f
-  items-length [] h = omega arith
-  items-length (a ∷ v) h = rw length-append (omega (arith, fixed-length f x a (h .0), items-length v (h .1)))
-
   abbrev items : ℕ → List (Value f)
   items m = replicate m (zeros-written f x .value)
 
@@ -100,7 +96,7 @@ module _ (f : Format) (x : Fixed f) where
         value = items m;
         fit = (omega arith, omega arith, items-fit m);
         bytes = rw many (bytes-append (width m k .bytes) (items-bytes m));
-        long = rw (length-append, many, items-length (items m) (items-fit m), many) e;
+        long = rw (length-append, many, length-all f x (items m) (items-fit m), many) e;
       }
 
   -- of a limit that takes three bytes
@@ -110,7 +106,7 @@ module _ (f : Format) (x : Fixed f) where
       record {
         within = λ v fit.
             let c = width (length v) (omega (arith, fit .0)) in
-            rw length-append (omega arith, omega (arith, items-length v (fit .2), mul-le-mul-right (size f) (fit .0)));
+            rw length-append (omega arith, omega (arith, length-all f x v (fit .2), mul-le-mul-right (size f) (fit .0)));
         shortest = counted-written limit field 0 (omega arith) (omega arith) (omega (arith, narrow 0 (omega arith)));
         longest = counted-written limit field limit (omega arith) k (rw (wider limit h k));
       }

@@ -5,7 +5,7 @@ use mathlib.Core.List.{List, [], _∷_}
 use mathlib.Core.Bool.{Bool, true, false}
 use mathlib.Core.Logic.{⊎-elim}
 use native.Mathlib.Omega.{arith}
-use lib.ListN.{length, replicate}
+use lib.ListN.{length}
 use lib.Dec.{eqb}
 use Rattle.hns_encoding.specs.Bytes.{leBytes, Bytes, none, byte}
 use Rattle.hns_encoding.specs.Compact.{compactBytes}
@@ -13,10 +13,6 @@ use Rattle.hns_encoding.specs.Format.{flagByte}
 use Rattle.hns_encoding.specs.Marks.{Mark, keep, clear, low as lower, one, marked, markAll}
 use Rattle.hns_encoding.proofs.Numbers.{lt-or-ge, length-leBytes}
 use Rattle.hns_encoding.proofs.Forms.{two, byte-alone, wide-bytes}
-
-pub bytes-zeros : (n : ℕ) → Bytes (replicate n 0)
-bytes-zeros zero = none
-bytes-zeros (suc n) = byte {b = 0} (omega arith) (bytes-zeros n)
 
 bytes-number : (n v : ℕ) → Bytes (leBytes n v)
 unfolding leBytes

@@ -22,8 +22,8 @@ use Rattle.hns_encoding.proofs.Outcomes.{bytes-fits}
 use Rattle.hns_encoding.proofs.Reading.{number-there, byte-number, value-read}
 use Rattle.hns_p2p_differences.specs.declared.Passed.the-variants as X
 use Rattle.hns_p2p_differences.specs.Passing.{passedOf}
-use Rattle.hns_p2p_differences.specs.Helpers.{sumAt, Alone, RunSum, Grouped, NextGroup}
-use Rattle.hns_p2p_differences.proofs.Passing.{index-refused, index-over, index-next, difference-most, indexes-end}
+use Rattle.hns_p2p_differences.specs.Helpers.{passedAfter, sumAt, Alone, RunSum, Grouped, NextGroup}
+use Rattle.hns_p2p_differences.proofs.Passing.{passed-first, index-refused, index-over, index-next, difference-most, indexes-end}
 
 -- ---- one difference
 
@@ -51,11 +51,11 @@ three-bytes s p h b {low} {high} el eh least most =
 
 -- it is passed where its index is not too great
 one-passed : (k base : ℕ) (s : List ℕ) (p : ℕ) {d next : ℕ} → countAt maxIndex indexField s p ≡ got d next → base + d ≤ maxIndex
-    → passedOf (base - 1) (indexesFrom (suc k) base s p) ≡ passedOf (base + d + 1 - 1) (indexesFrom k (base + d + 1) s next)
+    → passedAfter (base - 1) (indexesFrom (suc k) base s p) ≡ passedAfter (base + d + 1 - 1) (indexesFrom k (base + d + 1) s next)
 unfolding numberOf
 one-passed k base s p {d} {next} e h =
     let last : base + d + 1 - 1 ≡ base + d = omega arith in
-    index-next k (base - 1) base s p refl (ap numberOf e) h ∙ ap (λ (i : ℕ). passedOf i (indexesFrom k (base + d + 1) s next)) (sym last)
+    index-next k (base - 1) base s p refl (ap numberOf e) h ∙ ap (λ (i : ℕ). passedAfter i (indexesFrom k (base + d + 1) s next)) (sym last)
 
 -- ---- n of one byte each
 
@@ -69,7 +69,7 @@ sum-more (suc n) s p =
 
 -- they are passed where the last index is not too great
 alone-passed : (n k base : ℕ) (s : List ℕ) (p : ℕ) → Alone n s p → base + sumAt n s p + n ≤ maxIndex + 1
-    → passedOf (base - 1) (indexesFrom (n + k) base s p) ≡ passedOf (base + sumAt n s p + n - 1) (indexesFrom k (base + sumAt n s p + n) s (p + n))
+    → passedAfter (base - 1) (indexesFrom (n + k) base s p) ≡ passedAfter (base + sumAt n s p + n - 1) (indexesFrom k (base + sumAt n s p + n) s (p + n))
 unfolding sumAt
 alone-passed zero k base s p a h =
     let same : base + 0 + 0 ≡ base = omega arith in
@@ -141,7 +141,7 @@ pub record WalkTo (s : List ℕ) (base p least next : ℕ) (good : Bool) (i : �
   pub some : i ≤ 16
   pub place : next ≤ p + 3 * i
   pub high : least ≤ base + i * 65536
-  pub rest : good ≡ true → least ≤ maxIndex + 1 → (k : ℕ) → passedOf (base - 1) (indexesFrom (16 + k) base s p) ≡ passedOf (least - 1) (indexesFrom (16 - i + k) least s next)
+  pub rest : good ≡ true → least ≤ maxIndex + 1 → (k : ℕ) → passedAfter (base - 1) (indexesFrom (16 + k) base s p) ≡ passedAfter (least - 1) (indexesFrom (16 - i + k) least s next)
 
 pub walk-start : (s : List ℕ) (base p : ℕ) → WalkTo s base p base p true 0
 walk-start s base p = record { some = omega arith; place = omega arith; high = omega arith; rest = λ t h k. refl }
@@ -154,7 +154,7 @@ module _ {s : List ℕ} {base p least next : ℕ} {good : Bool} {i : ℕ} (t : W
         some = omega arith;
         place = omega (arith, t .place);
         high = omega (arith, t .high);
-        rest = λ q low k. (let g = f q in let more : 16 - i + k ≡ suc (16 - (i + 1) + k) = omega arith in t .rest (g .0) (omega arith) k ∙ (ap (λ (n : ℕ). passedOf (least - 1) (indexesFrom n least s next)) more ∙ one-passed (16 - (i + 1) + k) least s next (g .1) (omega arith)));
+        rest = λ q low k. (let g = f q in let more : 16 - i + k ≡ suc (16 - (i + 1) + k) = omega arith in t .rest (g .0) (omega arith) k ∙ (ap (λ (n : ℕ). passedAfter (least - 1) (indexesFrom n least s next)) more ∙ one-passed (16 - (i + 1) + k) least s next (g .1) (omega arith)));
       }
 
   module _ (h : i < 16) (inside : p + 48 ≤ length s) where
@@ -177,7 +177,7 @@ module _ {s : List ℕ} {base p least next : ℕ} {good : Bool} {i : ℕ} (t : W
   pub walk-end : 16 ≤ i → good ≡ true → Grouped s base p least next
   walk-end h q low k =
       let all : 16 - i + k ≡ k = omega arith in
-      t .rest q low k ∙ ap (λ (n : ℕ). passedOf (least - 1) (indexesFrom n least s next)) all
+      t .rest q low k ∙ ap (λ (n : ℕ). passedAfter (least - 1) (indexesFrom n least s next)) all
 
 -- ---- the list
 
@@ -185,13 +185,13 @@ module _ {s : List ℕ} {base p least next : ℕ} {good : Bool} {i : ℕ} (t : W
 pub record PassedTo (count : ℕ) (s : List ℕ) (first i base next : ℕ) : Type 0 where
   pub some : i ≤ count
   pub low : base ≤ maxIndex + 1
-  pub whole : passedOf 0 (indexesFrom count 0 s first) ≡ passedOf (base - 1) (indexesFrom (count - i) base s next)
+  pub whole : passedOf (indexesFrom count 0 s first) ≡ passedAfter (base - 1) (indexesFrom (count - i) base s next)
 
 pub pass-start : (count : ℕ) (s : List ℕ) (first : ℕ) → PassedTo count s first 0 0 first
 pass-start count s first =
     let all : count - 0 ≡ count = omega arith in
     let none : 0 - 1 ≡ 0 = omega arith in
-    record { some = omega arith; low = omega arith; whole = rw (all, none) }
+    record { some = omega arith; low = omega arith; whole = rw (all, none) (passed-first (indexesFrom count 0 s first)) }
 
 module _ {count : ℕ} {s : List ℕ} {first i base next : ℕ} (t : PassedTo count s first i base next) where
   pub pass-group : {least after : ℕ} → NextGroup s base next i count least after → least ≤ maxIndex + 1 → PassedTo count s first (i + 16) least after
@@ -201,19 +201,19 @@ module _ {count : ℕ} {s : List ℕ} {first i base next : ℕ} (t : PassedTo co
       record { some = left; low = h; whole = t .whole ∙ rw many (r .grouped h (count - (i + 16))) }
 
   module _ (h : i < count) {read : Number} (e : read ≡ numberOf (countAt maxIndex indexField s next)) where
-    here : passedOf 0 (indexesFrom count 0 s first) ≡ passedOf (base - 1) (indexesFrom (suc (count - (i + 1))) base s next)
+    here : passedOf (indexesFrom count 0 s first) ≡ passedAfter (base - 1) (indexesFrom (suc (count - (i + 1))) base s next)
     here =
         let more : count - i ≡ suc (count - (i + 1)) = omega arith in
-        t .whole ∙ ap (λ (k : ℕ). passedOf (base - 1) (indexesFrom k base s next)) more
+        t .whole ∙ ap (λ (k : ℕ). passedAfter (base - 1) (indexesFrom k base s next)) more
 
-    pub pass-refused : {r : Refusal} → read ≡ N.Refused r → X.Refused r ≡ passedOf 0 (indexesFrom count 0 s first)
+    pub pass-refused : {r : Refusal} → read ≡ N.Refused r → X.Refused r ≡ passedOf (indexesFrom count 0 s first)
     pass-refused g = sym (here ∙ index-refused (count - (i + 1)) (base - 1) base s next e g)
 
     module _ {d after : ℕ} (g : read ≡ N.Value d after) where
       pub pass-most : d ≤ maxIndex
       pass-most = difference-most 0 0 0 s next e g
 
-      pub pass-over : maxIndex < base + d → {r : Refusal} → r ≡ indexOver → X.Refused r ≡ passedOf 0 (indexesFrom count 0 s first)
+      pub pass-over : maxIndex < base + d → {r : Refusal} → r ≡ indexOver → X.Refused r ≡ passedOf (indexesFrom count 0 s first)
       pass-over over q = ap X.Refused q ∙ sym (here ∙ index-over (count - (i + 1)) (base - 1) base s next e g over)
 
       pub pass-next : base + d ≤ maxIndex → PassedTo count s first (i + 1) (base + d + 1) after
@@ -224,7 +224,7 @@ module _ {count : ℕ} {s : List ℕ} {first i base next : ℕ} (t : PassedTo co
             whole = here ∙ one-passed (count - (i + 1)) base s next (value-read (countAt maxIndex indexField s next) e g) small;
           }
 
-  pub pass-end : count ≤ i → {last : ℕ} → last ≡ base - 1 → X.To next last ≡ passedOf 0 (indexesFrom count 0 s first)
+  pub pass-end : count ≤ i → {last : ℕ} → last ≡ base - 1 → X.To next last ≡ passedOf (indexesFrom count 0 s first)
   pass-end h q =
       let none : count - i ≡ 0 = omega arith in
-      ap (X.To next) q ∙ sym (t .whole ∙ (ap (λ (k : ℕ). passedOf (base - 1) (indexesFrom k base s next)) none ∙ indexes-end (base - 1) base s next))
+      ap (X.To next) q ∙ sym (t .whole ∙ (ap (λ (k : ℕ). passedAfter (base - 1) (indexesFrom k base s next)) none ∙ indexes-end (base - 1) base s next))

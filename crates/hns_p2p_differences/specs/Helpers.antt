@@ -4,8 +4,11 @@ use mathlib.Core.Path.{_≡_}
 use mathlib.Core.List.{List}
 use lib.ListN.{length, getD}
 use Rattle.hns_refusals.specs.Limits.{maxIndex}
+use Rattle.hns_encoding.specs.Bytes.{Outcome, got, stop}
 use Rattle.hns_encoding.specs.Format.{indexesFrom}
-use Rattle.hns_p2p_differences.specs.Passing.{passedOf}
+use Rattle.hns_p2p_differences.specs.declared.Passed.{Passed}
+use Rattle.hns_p2p_differences.specs.declared.Passed.the-variants as X
+use Rattle.hns_p2p_differences.specs.Passing.{lastOf}
 
 -- the sum of n bytes from a place on
 unfoldable pub sumAt : ℕ → List ℕ → ℕ → ℕ
@@ -23,10 +26,15 @@ pub record RunSum (s : List ℕ) (at r : ℕ) : Type 0 where
   pub alone : r < 65536 → Alone 16 s at
   pub sum : r < 65536 → r ≡ sumAt 16 s at
 
+-- a list that follows an index
+unfoldable pub passedAfter : ℕ → Outcome (List ℕ) → Passed
+passedAfter before (got is next) = X.To next (lastOf before is)
+passedAfter before (stop r) = X.Refused r
+
 -- sixteen indexes are passed, each at least `base`, where those after them can be at least `least`: these are read from `next` on
 abbrev pub Grouped : List ℕ → ℕ → ℕ → ℕ → ℕ → Type 0
 Grouped s base at least next =
-    least ≤ maxIndex + 1 → (k : ℕ) → passedOf (base - 1) (indexesFrom (16 + k) base s at) ≡ passedOf (least - 1) (indexesFrom k least s next)
+    least ≤ maxIndex + 1 → (k : ℕ) → passedAfter (base - 1) (indexesFrom (16 + k) base s at) ≡ passedAfter (least - 1) (indexesFrom k least s next)
 
 -- and there are as many
 pub record NextGroup (s : List ℕ) (base at i count least next : ℕ) : Type 0 where

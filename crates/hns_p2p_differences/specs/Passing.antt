@@ -5,12 +5,12 @@ use Rattle.hns_encoding.specs.Bytes.{Outcome, got, stop}
 use Rattle.hns_p2p_differences.specs.declared.Passed.{Passed}
 use Rattle.hns_p2p_differences.specs.declared.Passed.the-variants as X
 
--- the last of indexes, after the one before them
+-- the last of indexes, or the number before them
 abbrev pub lastOf : ℕ → List ℕ → ℕ
 lastOf before [] = before
 lastOf before (i ∷ is) = lastOf i is
 
--- the place after an index list, and its last index
-unfoldable pub passedOf : ℕ → Outcome (List ℕ) → Passed
-passedOf before (got is next) = X.To next (lastOf before is)
-passedOf before (stop r) = X.Refused r
+-- the place after an index list, and its last index: 0 where it has none
+unfoldable pub passedOf : Outcome (List ℕ) → Passed
+passedOf (got is next) = X.To next (lastOf 0 is)
+passedOf (stop r) = X.Refused r

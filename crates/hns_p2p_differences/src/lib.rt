@@ -2,7 +2,7 @@
 use hns_encoding::Number;
 use hns_refusals::Refusal;
 ghost use mathlib.Core.Path.{_≡_};
-ghost use Prim.Native.Nat.{_+_, _-_, _≤_, _<_};
+ghost use Prim.Native.Nat.{_+_, _-_, _≤_};
 ghost use lib.ListN.{length};
 ghost use Rattle.hns_refusals.specs.Limits.{maxIndex};
 ghost use Rattle.hns_encoding.specs.Format.{indexesFrom};
@@ -15,12 +15,6 @@ pub enum Passed {
     Refused(Refusal),
 }
 
-fn wide(x: u8) -> u64
-    ensures { λ r. ⌜ (r ≡ x) × (r < 256) ⌝ }
-{
-    x as u64
-}
-
 // The sum of 16 bytes, or 65,536 where one of them is no difference alone. All of them are looked at, without a branch.
 fn run_sum(payload: &[u8], at: usize) -> u64
     requires { ⌜ at + 16 ≤ length (now payload) ⌝ }
@@ -30,7 +24,7 @@ fn run_sum(payload: &[u8], at: usize) -> u64
     let mut alone = true;
     let mut i = 0;
     while i < 16 {
-        let byte = wide(payload[at + i]);
+        let byte = hns_encoding::wide(payload[at + i]);
         sum += byte;
         alone = alone & (byte < 253);
         i += 1;
@@ -55,13 +49,14 @@ fn walk_group(payload: &[u8], base: u64, at: usize) -> Group
     let mut good = true;
     let mut i: u64 = 0;
     while i < 16 {
-        let head = wide(payload[next]);
+        let head = hns_encoding::wide(payload[next]);
         if head < 253 {
             least = least + head + 1;
             next += 1;
             i += 1;
         } else {
-            let two = wide(payload[next + 1]) + 256 * wide(payload[next + 2]);
+            let two = hns_encoding::wide(payload[next + 1])
+                + 256 * hns_encoding::wide(payload[next + 2]);
             good = good & (head == 253) & (253 <= two);
             least = least + two + 1;
             next += 3;
@@ -123,7 +118,7 @@ fn index_before(base: u64) -> u64
 
 // So many differences from a place on: each index is the one before, its difference and one more.
 pub fn pass_indexes(payload: &[u8], count: u64, first: usize) -> Passed
-    ensures { λ r. ⌜ r ≡ passedOf 0 (indexesFrom count 0 (now (payload .entry)) first) ⌝ }
+    ensures { λ r. ⌜ r ≡ passedOf (indexesFrom count 0 (now (payload .entry)) first) ⌝ }
 {
     let mut i: u64 = 0;
     let mut base: u64 = 0;

@@ -1,5 +1,5 @@
 -- Document 01, 'The frame': the encoding of a frame, the frame at the front of a list of bytes, the exact frame, and the writer.
-use Prim.Native.Nat.{ℕ, _+_, _-_, _≤_, _<_}
+use Prim.Native.Nat.{ℕ, _+_, _-_, _^_, _≤_, _<_}
 use mathlib.Core.List.{List, [], _∷_, _++_}
 use mathlib.Core.Bool.{Bool, true, false, _&&_}
 use lib.ListN.{length, getD, take, drop}
@@ -8,7 +8,7 @@ use Rattle.hns_refusals.specs.declared.Refusal.{Refusal}
 use Rattle.hns_refusals.specs.Limits.{headerSize, maxPayload}
 use Rattle.hns_refusals.specs.Refusals.{trailingBytes, magicMismatch, payloadTooLarge, incompleteFrame, outputShort}
 use Rattle.hns_encoding.specs.Bytes.{le, leBytes, Bytes, choose, part, Outcome, got, stop}
-use Rattle.hns_encoding.specs.Put.{splice}
+use Rattle.hns_encoding.specs.Put.{splice, Put}
 use Rattle.hns_p2p_frame.specs.declared.NetworkMagic.{NetworkMagic}
 use Rattle.hns_p2p_frame.specs.declared.NetworkMagic.the-variants.{Mainnet, Testnet, Regtest, Simnet}
 use Rattle.hns_p2p_frame.specs.declared.Encoded.{Encoded}
@@ -109,3 +109,11 @@ writeFrame net f o =
     (record { answer = E.Written (length (encoding net f)); output = splice o 0 (encoding net f) })
     (record { answer = E.Refused (outputShort (length (encoding net f))); output = o }))
     (record { answer = E.Refused (payloadTooLarge (length (f .payload))); output = o })
+
+-- ---- a payload behind a frame's header
+
+-- `framed` of proofs/Writes.antt: the header of a payload put at a place, and then the payload, are the frame's encoding put there
+abbrev pub Framed : Type 0
+Framed =
+    (net : NetworkMagic) (f : Frame) (o o₁ o₂ : List ℕ) (at at₁ at₂ : ℕ) → length o < 2 ^ 64
+    → Put o at (magic net ++ (f .packetType ∷ leBytes 4 (length (f .payload)))) o₁ at₁ → Put o₁ at₁ (f .payload) o₂ at₂ → Put o at (encoding net f) o₂ at₂

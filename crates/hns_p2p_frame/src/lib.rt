@@ -2,10 +2,11 @@
 use hns_encoder::Encoder;
 use hns_refusals::Refusal;
 ghost use mathlib.Core.Path.{_≡_};
+ghost use mathlib.Core.List.{_++_, _∷_};
 ghost use Prim.Native.Nat.{_+_, _-_, _≤_};
 ghost use lib.ListN.{length, take};
-ghost use Rattle.hns_encoding.specs.Bytes.{le, part};
-ghost use Rattle.hns_encoding.specs.Put.{splice};
+ghost use Rattle.hns_encoding.specs.Bytes.{le, leBytes, part};
+ghost use Rattle.hns_encoding.specs.Put.{splice, Put};
 ghost use Rattle.hns_p2p_frame.specs.Frame.{magic, same, missing, front, payloadOf, decodeExact, writeFrame};
 ghost use Rattle.hns_p2p_frame.specs.Walk.{walk};
 ghost use Rattle.hns_p2p_frame.specs.Push as Push;
@@ -194,6 +195,22 @@ pub fn decode_exact(network: NetworkMagic, input: &[u8]) -> Exact
     }
 }
 
+// The nine bytes of a frame before its payload, which a put of the payload can follow in the same output.
+pub fn put_frame_header(
+    encoder: Encoder,
+    out: &mut [u8],
+    network: NetworkMagic,
+    packet_type: u8,
+    length: u32,
+) -> Encoder
+    ensures { λ r. ⌜ Put (now (out .entry)) (encoder .position) (magic network ++ («packet_type» ∷ leBytes 4 length)) (now (out .exit)) (r .position) ⌝ }
+{
+    let bytes = network.as_bytes();
+    let e = encoder.put_bytes(out, &bytes);
+    let e = e.put_u8(out, packet_type);
+    e.put_u32_le(out, length)
+}
+
 pub fn encode(network: NetworkMagic, packet_type: u8, payload: &[u8], out: &mut [u8]) -> Encoded
     ensures { λ r. ⌜ r ≡ writeFrame network (record { packetType = «packet_type»; payload = now (payload .entry) }) (now (out .entry)) .answer ⌝ }
     ensures { λ _. ⌜ now (out .exit) ≡ writeFrame network (record { packetType = «packet_type»; payload = now (payload .entry) }) (now (out .entry)) .output ⌝ }
@@ -206,11 +223,8 @@ pub fn encode(network: NetworkMagic, packet_type: u8, payload: &[u8], out: &mut 
     if out.len() < total {
         return Encoded::Refused(Refusal::output_short(total));
     }
-    let magic = network.as_bytes();
-    let begun = Encoder::new().put_bytes(out, &magic);
-    let typed = begun.put_u8(out, packet_type);
-    let counted = typed.put_u32_le(out, length as u32);
-    counted.put_bytes(out, payload);
+    let e = put_frame_header(Encoder::new(), out, network, packet_type, length as u32);
+    e.put_bytes(out, payload);
     Encoded::Written(total)
 }
 

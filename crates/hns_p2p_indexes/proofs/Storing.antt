@@ -3,23 +3,24 @@ use Prim.Native.Nat.{ℕ, suc, _+_, _-_, _*_, _≤_, _<_}
 use mathlib.Core.Path.{_≡_, refl, sym, ap, _∙_, subst}
 use mathlib.Core.List.{List, [], _∷_}
 use native.Mathlib.Omega.{arith}
-use lib.ListN.{length, getD, set, length-set, take-append-drop}
+use lib.ListN.{length, getD, set, length-set}
 use lib.Dec.{leb}
 use borrow.Author.Tests.{le-leb, lt-leb, leb-true}
 use denote.Enum.Declared.{tagOf}
 use types.Run.{OneOf, miss}
 use Rattle.hns_refusals.specs.declared.Refusal.{Refusal}
-use Rattle.hns_refusals.specs.Limits.{maxPayload, maxIndex}
+use Rattle.hns_refusals.specs.Limits.{maxIndex}
 use Rattle.hns_refusals.specs.Refusals.{outputShort, indexField}
 use Rattle.hns_encoding.specs.Bytes.{le, Bytes, Outcome, got, stop, bytesAt, leAt, numberAt}
 use Rattle.hns_encoding.specs.Compact.{wideAt, compactFrom, compactAt, countAt}
 use Rattle.hns_encoding.specs.Format.{Value, read, indexesFrom}
 use Rattle.hns_encoding.specs.Put.{splice}
 use Rattle.hns_encoding.proofs.Outcomes.{after-got, choose-got, bytes-got, byte-got, toEnd-got, count-got}
-use Rattle.hns_encoding.proofs.Puts.{splice-fits, splice-append, splice-byte}
+use Rattle.hns_encoding.proofs.Puts.{splice-none, splice-cons}
 use Rattle.hns_encoding.proofs.Forms.{Wide, two, four, eight, wide-from, First as FirstByte, alone, leads, first}
 use Rattle.hns_encoding.proofs.Reading.{number-there}
 use Rattle.hns_p2p_differences.proofs.Differences.{one-byte, two-number}
+use Rattle.hns_p2p_types.proofs.Payloads.{by-got}
 use Rattle.hns_p2p_types.specs.Protocol.{getblocktxn, always, readBy}
 use Rattle.hns_p2p_types.specs.declared.Items.{Items}
 use Rattle.hns_p2p_types.specs.declared.Listing.{Listing}
@@ -128,15 +129,6 @@ module _ (k base : ℕ) (s : List ℕ) (p : ℕ) (r : Reads (suc k) base s p) wh
       let same-next : f .next ≡ next = cc in
       subst (λ (n : ℕ). Turn k base s p d n) same-next (subst (λ (n : ℕ). Turn k base s p n (f .next)) same-d (made-turn k base s p f))
 
-pub splice-none : (o : List ℕ) (p : ℕ) → splice o p [] ≡ o
-splice-none o p =
-    let here : p + 0 ≡ p = omega arith in
-    splice-fits o p [] (omega arith) ∙ rw here (take-append-drop p o)
-
--- one more to an output
-pub splice-cons : (o : List ℕ) (p x : ℕ) (xs : List ℕ) → splice o p (x ∷ xs) ≡ splice (set o p x) (p + 1) xs
-splice-cons o p x xs = splice-append o p (x ∷ []) xs ∙ ap (λ (l : List ℕ). splice l (p + 1) xs) (splice-byte o p x)
-
 module _ {count : ℕ} {s : List ℕ} {first : ℕ} {o₀ o : List ℕ} {i base next : ℕ} (t : StoredTo count s first o₀ o i base next) where
   module _ (h : i < count) where
     more : count - i ≡ suc (count - (i + 1))
@@ -183,7 +175,7 @@ seen s bs = go (readBy (always getblocktxn) s) refl
   where
     go : (o : Outcome (Value getblocktxn)) → readBy (always getblocktxn) s ≡ o → Seen s (listIn (answered (λ v. P.GetBlockTxn (record { «block_hash» = 0; indexes = itemsAt 32 (v .1) })) o)) o
     go (got v last) e =
-        let k = choose-got (leb (length s) maxPayload) _ _ e in
+        let k = by-got (always getblocktxn) s e in
         (refl, indexed-there s bs v (toEnd-got (read getblocktxn) s (k .1) .0))
     go (stop r) e = refl
 

@@ -16,10 +16,10 @@ pub record Answer : Type 0 where
   pub answer : Stored
   pub output : List ℕ
 
--- 16, with as many places as there are indexes, where the output has fewer; else the indexes stand at its front, and no other place changes
+-- 16, with as many places as there are numbers, where the output has fewer; else they stand at its front, and no other place changes
 abbrev pub fitted : List ℕ → List ℕ → Answer
-fitted is o =
-    choose (leb (length is) (length o)) (record { answer = S.Count (length is); output = splice o 0 is }) (record { answer = S.Refused (outputShort (length is)); output = o })
+fitted ns o =
+    choose (leb (length ns) (length o)) (record { answer = S.Count (length ns); output = splice o 0 ns }) (record { answer = S.Refused (outputShort (length ns)); output = o })
 
 -- the payload's own refusal before that
 abbrev pub storedBy : Outcome (Value getblocktxn) → List ℕ → Answer

@@ -3,7 +3,7 @@ use hns_p2p_types::Listing;
 use hns_p2p_types::Stored;
 use hns_refusals::Refusal;
 ghost use mathlib.Core.Path.{_≡_};
-ghost use Prim.Native.Nat.{_≤_, _<_};
+ghost use Prim.Native.Nat.{_≤_};
 ghost use lib.ListN.{length};
 ghost use Rattle.hns_refusals.specs.Limits.{maxIndex};
 ghost use Rattle.hns_refusals.specs.Refusals.{indexField};
@@ -20,18 +20,12 @@ struct Step {
     after: usize,
 }
 
-fn wide(x: u8) -> u64
-    ensures { λ r. ⌜ (r ≡ x) × (r < 256) ⌝ }
-{
-    x as u64
-}
-
 // A difference that reads is a byte alone, or two after 253: no other form is short enough.
 fn step_at(payload: &[u8], at: usize) -> Step
     requires { ⌜ StepThere (now payload) at ⌝ }
     ensures { λ r. ⌜ countAt maxIndex indexField (now (payload .entry)) at ≡ got (r .difference) (r .after) ⌝ }
 {
-    let head = wide(payload[at]);
+    let head = hns_encoding::wide(payload[at]);
     if head < 253 {
         let after = at + 1;
         Step {
@@ -39,7 +33,7 @@ fn step_at(payload: &[u8], at: usize) -> Step
             after,
         }
     } else {
-        let two = wide(payload[at + 1]) + 256 * wide(payload[at + 2]);
+        let two = hns_encoding::wide(payload[at + 1]) + 256 * hns_encoding::wide(payload[at + 2]);
         let after = at + 3;
         Step {
             difference: two,

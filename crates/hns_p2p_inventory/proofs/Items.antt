@@ -19,7 +19,8 @@ use Rattle.hns_p2p_plans.specs.declared.Plan.the-variants as P
 use Rattle.hns_p2p_plans.specs.Tests.{within, planned}
 use Rattle.hns_p2p_list_puts.specs.Fields.{inventoryOf}
 use Rattle.hns_p2p_list_puts.proofs.Rests.{Rest, all-left, one-put, none-left}
-use Rattle.hns_p2p_list_puts.proofs.Items.{flat-back, length-all}
+use Rattle.hns_encoding.proofs.Blocks.{length-all}
+use Rattle.hns_p2p_list_puts.proofs.Items.{flat-back}
 use Rattle.hns_p2p_writer.specs.Writing.{exit}
 use Rattle.hns_p2p_writer.specs.Writers.{givesInventory}
 use Rattle.hns_p2p_writer.proofs.Writing.{refused, written}

@@ -2,7 +2,7 @@
 use Prim.Native.Nat.{ℕ, zero, suc, _+_, _-_, _*_, _≤_, _<_}
 use mathlib.Core.Path.{_≡_, refl, sym, ap, _∙_, subst}
 use mathlib.Core.Bool.{Bool, true, false}
-use mathlib.Core.List.{List, [], _∷_, _++_, map}
+use mathlib.Core.List.{List, [], _∷_, map}
 use native.Mathlib.Omega.{arith}
 use native.Mathlib.Nat.{suc-mul, mul-le-mul-right}
 use lib.ListN.{length, set, length-append}
@@ -16,7 +16,7 @@ use Rattle.hns_refusals.specs.Refusals.{outputShort}
 use Rattle.hns_encoding.specs.Bytes.{Bytes, numberAt, Outcome, got, stop}
 use Rattle.hns_encoding.specs.Format.{Format, raw, whole, Value, size, Fixed, fixedFlat, valueAt, valuesAt}
 use Rattle.hns_encoding.specs.Put.{splice}
-use Rattle.hns_encoding.proofs.Puts.{splice-append, length-splice}
+use Rattle.hns_encoding.proofs.Puts.{splice-none, splice-append, splice-cons, length-splice}
 use Rattle.hns_header_consensus.specs.Layout.{header}
 use Rattle.hns_p2p_types.specs.Protocol.{address, inventoryItem}
 use Rattle.hns_p2p_types.specs.declared.NetAddress.{NetAddress}
@@ -26,15 +26,14 @@ use Rattle.hns_p2p_types.specs.declared.Listing.the-variants as L
 use Rattle.hns_p2p_types.specs.declared.Stored.{Stored}
 use Rattle.hns_p2p_types.specs.declared.Stored.the-variants as S
 use Rattle.hns_p2p_types.proofs.Listing as listings
-use Rattle.hns_p2p_types.specs.Packets.{addressIn}
+use Rattle.hns_p2p_types.specs.Packets.{addressIn, addressNumbers, inventoryNumbers}
 use Rattle.hns_p2p_blocks.proofs.Addresses.{address-is}
 use Rattle.hns_p2p_items.specs.Items.{Element, anAddress, anInventory, aHash, aHeader, anIndex, Listed, sizeOf, answer, answerAt, listedOf}
 use Rattle.hns_p2p_items.specs.Listings.{listingOf, Records, Holds, HeldBy}
 use Rattle.hns_p2p_items.proofs.Held.{held-by, refused-held}
 use Rattle.hns_p2p_indexes.specs.Indexes.{Answer, fitted}
-use Rattle.hns_p2p_indexes.proofs.Storing.{splice-none, splice-cons}
-use Rattle.hns_p2p_item_numbers.specs.Numbers.{addressNumbers, inventoryNumbers, itemNumbers, numbersAfter, numbersBy, numbersOf}
-use Rattle.hns_p2p_item_numbers.specs.Helpers.{bytesOf, manyOf, numbersAt, numbersFrom}
+use Rattle.hns_p2p_item_numbers.specs.Numbers.{itemNumbers, numbersAfter, numbersBy, numbersOf}
+use Rattle.hns_p2p_item_numbers.specs.Helpers.{bytesEach, numbersEach, numbersAt, numbersFrom}
 
 -- ---- stores one after another
 
@@ -65,22 +64,22 @@ module _ (o : List ℕ) (p : ℕ) (s : List ℕ) (q : ℕ) where
 
 -- ---- the loop
 
-pub length-numbers : (b : Bool) (s : List ℕ) (p : ℕ) → length (numbersAt b s p) ≡ manyOf b
+pub length-numbers : (b : Bool) (s : List ℕ) (p : ℕ) → length (numbersAt b s p) ≡ numbersEach b
 unfolding numbersAt
 length-numbers true s p = refl
 length-numbers false s p = refl
 
-pub length-from : (b : Bool) (s : List ℕ) (n p : ℕ) → length (numbersFrom b s n p) ≡ n * manyOf b
+pub length-from : (b : Bool) (s : List ℕ) (n p : ℕ) → length (numbersFrom b s n p) ≡ n * numbersEach b
 unfolding numbersFrom
 length-from b s zero p = omega arith
-length-from b s (suc n) p = omega (arith, length-append (numbersAt b s p) (numbersFrom b s n (p + bytesOf b)), length-numbers b s p, length-from b s n (p + bytesOf b), suc-mul n (manyOf b))
+length-from b s (suc n) p = omega (arith, length-append (numbersAt b s p) (numbersFrom b s n (p + bytesEach b)), length-numbers b s p, length-from b s n (p + bytesEach b), suc-mul n (numbersEach b))
 
 -- i items are stored, and the others stand from `at` on
 pub record StoredTo (b : Bool) (s : List ℕ) (first count : ℕ) (o₀ o : List ℕ) (at to i : ℕ) : Type 0 where
   pub some : i ≤ count
   pub long : length o ≡ length o₀
-  pub here : at ≡ first + i * bytesOf b
-  pub there : to ≡ i * manyOf b
+  pub here : at ≡ first + i * bytesEach b
+  pub there : to ≡ i * numbersEach b
   pub whole : splice o₀ 0 (numbersFrom b s count first) ≡ splice o to (numbersFrom b s (count - i) at)
 
 pub store-start : (b : Bool) (s : List ℕ) (first count : ℕ) (o : List ℕ) → StoredTo b s first count o o first 0 0
@@ -90,24 +89,24 @@ store-start b s first count o =
 
 module _ {b : Bool} {s : List ℕ} {first count : ℕ} {o₀ o : List ℕ} {at to i : ℕ} (t : StoredTo b s first count o₀ o at to i) where
   module _ (h : i < count) where
-    pub store-room : count * manyOf b ≤ length o₀ → to + manyOf b ≤ length o
+    pub store-room : count * numbersEach b ≤ length o₀ → to + numbersEach b ≤ length o
     store-room fits =
-        let more : suc i * manyOf b ≡ i * manyOf b + manyOf b = suc-mul i (manyOf b) in
-        let most : suc i * manyOf b ≤ count * manyOf b = mul-le-mul-right (manyOf b) h in
+        let more : suc i * numbersEach b ≡ i * numbersEach b + numbersEach b = suc-mul i (numbersEach b) in
+        let most : suc i * numbersEach b ≤ count * numbersEach b = mul-le-mul-right (numbersEach b) h in
         omega (arith, t .there, t .long)
 
-    pub store-inside : first + count * bytesOf b ≤ maxPayload → at + bytesOf b ≤ maxPayload
+    pub store-inside : first + count * bytesEach b ≤ maxPayload → at + bytesEach b ≤ maxPayload
     store-inside fits =
-        let more : suc i * bytesOf b ≡ i * bytesOf b + bytesOf b = suc-mul i (bytesOf b) in
-        let most : suc i * bytesOf b ≤ count * bytesOf b = mul-le-mul-right (bytesOf b) h in
+        let more : suc i * bytesEach b ≡ i * bytesEach b + bytesEach b = suc-mul i (bytesEach b) in
+        let most : suc i * bytesEach b ≤ count * bytesEach b = mul-le-mul-right (bytesEach b) h in
         omega (arith, t .here)
 
-    pub store-next : {o′ : List ℕ} → o′ ≡ splice o to (numbersAt b s at) → StoredTo b s first count o₀ o′ (at + bytesOf b) (to + manyOf b) (i + 1)
+    pub store-next : {o′ : List ℕ} → o′ ≡ splice o to (numbersAt b s at) → StoredTo b s first count o₀ o′ (at + bytesEach b) (to + numbersEach b) (i + 1)
     unfolding numbersFrom
     store-next e =
         let more : count - i ≡ suc (count - (i + 1)) = omega arith in
-        let items : (i + 1) * bytesOf b ≡ i * bytesOf b + bytesOf b = omega (arith, suc-mul i (bytesOf b)) in
-        let numbers : (i + 1) * manyOf b ≡ i * manyOf b + manyOf b = omega (arith, suc-mul i (manyOf b)) in
+        let items : (i + 1) * bytesEach b ≡ i * bytesEach b + bytesEach b = omega (arith, suc-mul i (bytesEach b)) in
+        let numbers : (i + 1) * numbersEach b ≡ i * numbersEach b + numbersEach b = omega (arith, suc-mul i (numbersEach b)) in
         record {
           some = omega arith;
           long = ap length e ∙ (length-splice o to (numbersAt b s at) ∙ t .long);
@@ -115,7 +114,7 @@ module _ {b : Bool} {s : List ℕ} {first count : ℕ} {o₀ o : List ℕ} {at t
           there = omega (arith, t .there);
           whole = t .whole
               ∙ (ap (λ (n : ℕ). splice o to (numbersFrom b s n at)) more
-              ∙ (splice-append o to (numbersAt b s at) (numbersFrom b s (count - (i + 1)) (at + bytesOf b))
+              ∙ (splice-append o to (numbersAt b s at) (numbersFrom b s (count - (i + 1)) (at + bytesEach b))
               ∙ rw (length-numbers b s at, e)));
         }
 
@@ -132,11 +131,11 @@ abbrev pub Answers : Answer → Stored → List ℕ → Type 0
 Answers x answer output = (answer ≡ x .answer) × (output ≡ x .output)
 
 -- no more numbers than bytes
-pub all-small : (b : Bool) (count first : ℕ) → first + count * bytesOf b ≤ maxPayload → count * manyOf b ≤ maxPayload
+pub all-small : (b : Bool) (count first : ℕ) → first + count * bytesEach b ≤ maxPayload → count * numbersEach b ≤ maxPayload
 all-small true count first h = omega arith
 all-small false count first h = omega arith
 
-module _ (b : Bool) (s : List ℕ) (count first : ℕ) (o : List ℕ) {n : ℕ} (e : n ≡ count * manyOf b) where
+module _ (b : Bool) (s : List ℕ) (count first : ℕ) (o : List ℕ) {n : ℕ} (e : n ≡ count * numbersEach b) where
   pub all-short : length o < n → {q : Refusal} → q ≡ outputShort n → Answers (fitted (numbersFrom b s count first) o) (S.Refused q) o
   all-short h k =
       let many = length-from b s count first in
@@ -152,7 +151,7 @@ module _ (b : Bool) (s : List ℕ) (count first : ℕ) (o : List ℕ) {n : ℕ} 
 -- ---- the numbers from the places are those of the items
 
 module _ (b : Bool) (f : Format) (x : Fixed f) (element : Value f → Element) (sized : (v : Value f) → sizeOf (element v) ≡ size f) (s : List ℕ) (l : Listed)
-    (same : (p : ℕ) → p + size f ≤ length s → itemNumbers (answer p (element (valueAt f (fixedFlat f x) s p))) ≡ numbersAt b s p) (wide : bytesOf b ≡ size f) where
+    (same : (p : ℕ) → p + size f ≤ length s → itemNumbers (answer p (element (valueAt f (fixedFlat f x) s p))) ≡ numbersAt b s p) (wide : bytesEach b ≡ size f) where
   from-items : (n k p : ℕ) → p ≡ l .first + k * size f → p + n * size f ≤ length s → numbersAfter l k (map element (valuesAt f x n s p)) ≡ numbersFrom b s n p
   unfolding numbersAfter numbersFrom valuesAt
   from-items zero k p e h = refl
@@ -196,7 +195,7 @@ shaped true i = L.Addresses i
 shaped false i = L.Inventory i
 
 pub record Shaped (b : Bool) (s : List ℕ) (i : Items) (q : Outcome Listed) : Type 0 where
-  pub inside : i .first + i .count * bytesOf b ≤ maxPayload
+  pub inside : i .first + i .count * bytesEach b ≤ maxPayload
   pub same : (o : List ℕ) → fitted (numbersFrom b s (i .count) (i .first)) o ≡ numbersBy q o
 
 by-shape : (b : Bool) (s : List ℕ) (i : Items) (q : Outcome Listed) → HeldBy s (shaped b i) q → Shaped b s i q

@@ -2,20 +2,12 @@
 use Prim.Native.Nat.{ℕ, suc}
 use mathlib.Core.List.{List, [], _∷_, _++_}
 use Rattle.hns_encoding.specs.Bytes.{Outcome, got, stop}
-use Rattle.hns_p2p_types.specs.declared.NetAddress.{NetAddress}
 use Rattle.hns_p2p_types.specs.declared.Item.{Item}
 use Rattle.hns_p2p_types.specs.declared.Item.the-variants as I
 use Rattle.hns_p2p_types.specs.declared.Stored.the-variants as S
+use Rattle.hns_p2p_types.specs.Packets.{addressNumbers, inventoryNumbers}
 use Rattle.hns_p2p_items.specs.Items.{Element, Listed, answerAt, listedOf}
 use Rattle.hns_p2p_indexes.specs.Indexes.{Answer, fitted}
-
--- the fields of an address in their order
-abbrev pub addressNumbers : NetAddress → List ℕ
-addressNumbers a = a .time ∷ a .services ∷ a .«ip_first» ∷ a .«ip_last» ∷ a .port ∷ a .key ∷ []
-
--- the kind, and the place of the hash
-abbrev pub inventoryNumbers : ℕ → ℕ → List ℕ
-inventoryNumbers kind hash = kind ∷ hash ∷ []
 
 -- hashes and headers stand one after another from the first place on, and indexes have their own call
 abbrev pub itemNumbers : Item → List ℕ

@@ -13,17 +13,17 @@ ghost use Rattle.hns_refusals.specs.Limits.{maxPayload};
 ghost use Rattle.hns_encoding.specs.Put.{splice};
 ghost use Rattle.hns_p2p_indexes.specs.Indexes.{fitted};
 ghost use Rattle.hns_p2p_item_numbers.specs.Numbers.{numbersOf};
-ghost use Rattle.hns_p2p_item_numbers.specs.Helpers.{bytesOf, manyOf, numbersAt, numbersFrom};
+ghost use Rattle.hns_p2p_item_numbers.specs.Helpers.{bytesEach, numbersEach, numbersAt, numbersFrom};
 
 // How many bytes an item takes, and how many numbers it has: addresses, or inventory items.
-fn bytes_of(addresses: bool) -> usize
-    ensures { λ r. ⌜ r ≡ bytesOf addresses ⌝ }
+fn bytes_each(addresses: bool) -> usize
+    ensures { λ r. ⌜ r ≡ bytesEach addresses ⌝ }
 {
     if addresses { NET_ADDRESS_SIZE } else { 36 }
 }
 
-fn many_of(addresses: bool) -> usize
-    ensures { λ r. ⌜ r ≡ manyOf addresses ⌝ }
+fn numbers_each(addresses: bool) -> usize
+    ensures { λ r. ⌜ r ≡ numbersEach addresses ⌝ }
 {
     if addresses { 6 } else { 2 }
 }
@@ -50,7 +50,7 @@ fn put_inventory(payload: &[u8], at: usize, out: &mut [u64], to: usize)
 }
 
 fn put_item(payload: &[u8], addresses: bool, at: usize, out: &mut [u64], to: usize)
-    requires { ⌜ (to + manyOf addresses ≤ length (now out)) × (at ≤ maxPayload) ⌝ }
+    requires { ⌜ (to + numbersEach addresses ≤ length (now out)) × (at ≤ maxPayload) ⌝ }
     ensures { λ _. ⌜ now (out .exit) ≡ splice (now (out .entry)) to (numbersAt addresses (now (payload .entry)) at) ⌝ }
 {
     if addresses {
@@ -62,31 +62,31 @@ fn put_item(payload: &[u8], addresses: bool, at: usize, out: &mut [u64], to: usi
 
 // So many items from a place on.
 fn put_items(payload: &[u8], addresses: bool, first: usize, count: usize, out: &mut [u64])
-    requires { ⌜ (first + count * bytesOf addresses ≤ maxPayload) × (count * manyOf addresses ≤ length (now out)) ⌝ }
+    requires { ⌜ (first + count * bytesEach addresses ≤ maxPayload) × (count * numbersEach addresses ≤ length (now out)) ⌝ }
     ensures { λ _. ⌜ now (out .exit) ≡ splice (now (out .entry)) 0 (numbersFrom addresses (now (payload .entry)) count first) ⌝ }
 {
-    let bytes = bytes_of(addresses);
-    let many = many_of(addresses);
+    let bytes = bytes_each(addresses);
+    let numbers = numbers_each(addresses);
     let mut at = first;
     let mut to = 0;
     let mut i = 0;
     while i < count {
         put_item(payload, addresses, at, out, to);
         at += bytes;
-        to += many;
+        to += numbers;
         i += 1;
     }
 }
 
 // All of them, where the output has room.
 fn put_all(payload: &[u8], addresses: bool, items: Items, out: &mut [u64]) -> Stored
-    requires { ⌜ items .first + items .count * bytesOf addresses ≤ maxPayload ⌝ }
+    requires { ⌜ items .first + items .count * bytesEach addresses ≤ maxPayload ⌝ }
     ensures { λ r. ⌜ r ≡ fitted (numbersFrom addresses (now (payload .entry)) (items .count) (items .first)) (now (out .entry)) .answer ⌝ }
     ensures { λ _. ⌜ now (out .exit) ≡ fitted (numbersFrom addresses (now (payload .entry)) (items .count) (items .first)) (now (out .entry)) .output ⌝ }
 {
     let count = items.count;
     let first = items.first;
-    let numbers = count * many_of(addresses);
+    let numbers = count * numbers_each(addresses);
     if out.len() < numbers {
         return Stored::Refused(Refusal::output_short(numbers));
     }

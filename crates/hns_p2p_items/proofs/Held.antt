@@ -16,6 +16,7 @@ use Rattle.hns_encoding.specs.Format.{Format, raw, counted, indexes, whole, Val
 use Rattle.hns_encoding.proofs.Outcomes.{after-got, choose-got, bytes-got, toEnd-got, count-got}
 use Rattle.hns_encoding.proofs.Forward.{compact-got}
 use Rattle.hns_header_consensus.specs.Layout.{header}
+use Rattle.hns_p2p_types.proofs.Payloads.{by-got}
 use Rattle.hns_p2p_types.specs.Protocol.{address, inventoryItem, locator, getblocktxn, readBy}
 use Rattle.hns_p2p_types.specs.declared.Listing.{Listing}
 use Rattle.hns_p2p_types.specs.declared.Listing.the-variants as L
@@ -149,8 +150,8 @@ held t s bs = go (readBy (layout t) s) refl
   where
     go : (o : Outcome (Value (layout t (length s)))) → readBy (layout t) s ≡ o → HeldBy s (listIn (answered (row t .packet s) o)) (after o (λ v last. got (itemsBy t .listed (length s) v) last))
     go (got v last) e =
-        let k = choose-got (leb (length s) maxPayload) _ _ e in
-        (row-held t .holds s bs v last (k .1), leb-true (length s) maxPayload (k .0))
+        let k = by-got (layout t) s e in
+        (row-held t .holds s bs v last (k .1), k .0)
     go (stop r) e = refl
 
 pub held-by : (t : ℕ) (s : List ℕ) → Bytes s → {list : Listing} → list ≡ listingOf t s → HeldBy s list (listedOf t s)

@@ -32,9 +32,9 @@ use Rattle.hns_p2p_types.specs.declared.Packet.the-variants as P
 use Rattle.hns_p2p_types.proofs.Packet as packets
 use Rattle.hns_p2p_types.proofs.Listing as listings
 use Rattle.hns_p2p_blocks.proofs.Addresses.{address-is}
-use Rattle.hns_p2p_differences.specs.Passing.{passedOf}
+use Rattle.hns_p2p_differences.specs.Helpers.{passedAfter}
 use Rattle.hns_p2p_lists.proofs.Lists.{value-stands}
-use Rattle.hns_p2p_differences.proofs.Passing.{index-next, indexes-end}
+use Rattle.hns_p2p_differences.proofs.Passing.{passed-first, index-next, indexes-end}
 use Rattle.hns_p2p_lists.proofs.Requests.{index-count}
 use Rattle.hns_p2p_items.specs.Items.{Element, anIndex, Listed, sizeOf, answer, pick, answerAt, itemBy, itemOf, listedOf, Stands, key-there, hash-there, bytes-there, header-there, index-there, ItemsStand}
 use Rattle.hns_p2p_items.specs.Listings.{listIn, listingOf, Records, Indexes, Holds, HeldBy}
@@ -148,12 +148,12 @@ first-of n base s p {is} e =
     record { d = g .0; next = g .1; end = m .1; rest = m .0; difference = g .2; small = leb-true _ _ (c .0); reads = m .2; same = cc (m .3) }
 
 -- it is passed first
-first-passed : (k before : ℕ) {n base : ℕ} {s : List ℕ} {p : ℕ} {is : List ℕ} (g : First n base s p is) → passedOf before (indexesFrom (suc k) base s p) ≡ passedOf (base + g .d) (indexesFrom k (base + g .d + 1) s (g .next))
+first-passed : (k before : ℕ) {n base : ℕ} {s : List ℕ} {p : ℕ} {is : List ℕ} (g : First n base s p is) → passedAfter before (indexesFrom (suc k) base s p) ≡ passedAfter (base + g .d) (indexesFrom k (base + g .d + 1) s (g .next))
 unfolding numberOf
 first-passed k before {base = base} {s} {p} g = index-next k before base s p {read = N.Value (g .d) (g .next)} (sym (ap numberOf (g .difference))) refl (g .small)
 
 -- the index at a place is the last of as many and one more
-nth-index : (k n before base : ℕ) (s : List ℕ) (p : ℕ) {is : List ℕ} {last : ℕ} → indexesFrom n base s p ≡ got is last → k < n → lastItem (passedOf before (indexesFrom (suc k) base s p)) ≡ I.Index (getD is k 0)
+nth-index : (k n before base : ℕ) (s : List ℕ) (p : ℕ) {is : List ℕ} {last : ℕ} → indexesFrom n base s p ≡ got is last → k < n → lastItem (passedAfter before (indexesFrom (suc k) base s p)) ≡ I.Index (getD is k 0)
 nth-index k zero before base s p e h = absurd (omega arith)
 nth-index zero (suc n) before base s p e h =
     let g = first-of n base s p e in
@@ -171,7 +171,7 @@ module _ {s : List ℕ} {i : Items} {l : Listed} (r : Indexes s i l) where
 
   index-law : (k : ℕ) → k < i .count → (d : Element) → indexIn s (i .first) k ≡ answerAt l k (getD (l .elements) k d)
   unfolding indexIn
-  index-law k h d = rw add-one (nth-index k (i .count) 0 0 s (i .first) (r .indexed .reads) h) ∙ sym (ap (answerAt l k) (nth-of-indexes k h d))
+  index-law k h d = rw (passed-first, add-one) (nth-index k (i .count) 0 0 s (i .first) (r .indexed .reads) h) ∙ sym (ap (answerAt l k) (nth-of-indexes k h d))
 
 -- ---- the code's answer is the definition's
 

@@ -30,7 +30,7 @@ lastItem (X.To next last) = I.Index last
 lastItem (X.Refused r) = I.Refused r
 
 unfoldable pub indexIn : List ℕ → ℕ → ℕ → Item
-indexIn s first k = lastItem (passedOf 0 (indexesFrom (k + 1) 0 s first))
+indexIn s first k = lastItem (passedOf (indexesFrom (k + 1) 0 s first))
 
 unfoldable pub itemIn : List ℕ → Listing → ℕ → ℕ → Item
 itemIn s (L.Addresses i) first k = I.Address (addressIn s (first + k * 88))

@@ -5,19 +5,19 @@ use mathlib.Core.Bool.{Bool, true, false}
 use mathlib.Core.List.{List, [], _∷_}
 use native.Mathlib.Omega.{arith}
 use lib.ListN.{length, getD}
-use lib.Dec.{leb}
-use Rattle.hns_refusals.specs.Limits.{maxPayload, maxLocator}
+use Rattle.hns_refusals.specs.Limits.{maxLocator}
 use Rattle.hns_refusals.specs.Refusals.{locatorField}
 use Rattle.hns_encoding.specs.Bytes.{choose, part, numberAt, got, toEnd, bytesAt}
 use Rattle.hns_encoding.specs.Format.{Format, nothing, raw, counted, indexes, _▸_, Value, read, sum, All, valueAt, widthsAt, Flat}
-use Rattle.hns_encoding.proofs.Outcomes.{after-got, choose-got, bytes-got, toEnd-got}
+use Rattle.hns_encoding.proofs.Outcomes.{after-got, bytes-got, toEnd-got}
 use Rattle.hns_encoding.proofs.Numbers.{part-length}
+use Rattle.hns_p2p_types.proofs.Payloads.{by-got}
 use Rattle.hns_p2p_types.specs.declared.Span.{Span}
 use Rattle.hns_p2p_types.specs.declared.Packet.{Packet}
 use Rattle.hns_p2p_types.specs.declared.Packet.the-variants as P
 use Rattle.hns_p2p_types.specs.declared.LocatorPacket.{LocatorPacket}
 use Rattle.hns_p2p_types.specs.declared.Hash.the-variants as H
-use Rattle.hns_p2p_types.specs.Protocol.{version, locator, carriesHash, reject, getblocktxn, getproof, readBy}
+use Rattle.hns_p2p_types.specs.Protocol.{version, locator, carriesHash, reject, getblocktxn, getproof}
 use Rattle.hns_p2p_types.specs.Packets.{Row, worded, fields, rawBytes, versionPacket, locatorPacket, rejectPacket, spanAt, agentOf, reasonOf, itemsAt, rows, row, layout, _&_, entry}
 use Rattle.hns_p2p_blocks.proofs.Packets.{reject-flat}
 use Rattle.hns_p2p_packet.proofs.Texts.{flat-got, row-words}
@@ -159,8 +159,7 @@ unfolding row partsOf rawPlaces
 row-stands t = entry-stands rows (rawBytes (P.Unknown t)) t columns (partsBy (λ n v. v ∷ [])) rows-stand (raw-stands (P.Unknown t) (λ k. refl))
 
 pub places-stand : PlacesStand
-unfolding readBy
 places-stand t s v last e =
-    let all = choose-got (leb (length s) maxPayload) _ _ e .1 in
+    let all = by-got (layout t) s e .1 in
     let words = row-words t .words s v last all in
     record { bytes = row-stands t .stand s v last all; inside = words .inside; text = words .same }

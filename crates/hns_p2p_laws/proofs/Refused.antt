@@ -12,7 +12,6 @@ use Rattle.hns_encoding.specs.Bytes.{choose, left, Outcome, got, stop, after, b
 use Rattle.hns_encoding.specs.Compact.{wideAt, compactFrom, compactAt, countAt}
 use Rattle.hns_encoding.specs.Format.{Format, nothing, num, raw, reserved, host, flag, text, counted, indexes, whole, tagged, _▸_, Value, many, indexesFrom, read}
 use Rattle.hns_encoding.proofs.Outcomes.{choose-leb}
-use Rattle.hns_p2p_types.specs.declared.Packet.the-variants as P
 use Rattle.hns_p2p_types.specs.Protocol.{Layout, readBy}
 use Rattle.hns_p2p_types.specs.Packets.{row, layout, texted, answerBy, readPacket}
 use Rattle.hns_p2p_laws.specs.Refused.{PayloadRefusal, ends, not-shortest, left-over, too-large, over-limit, index-over, AnswerIs, refused, text-short, reads, PacketIs}

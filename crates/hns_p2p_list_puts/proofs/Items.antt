@@ -14,7 +14,7 @@ use Rattle.hns_encoding.specs.Put.{Put}
 use Rattle.hns_encoding.proofs.Numbers.{part-add, part-length}
 use Rattle.hns_encoding.proofs.Reading.{number-there}
 use Rattle.hns_encoding.proofs.Back.{back}
-use Rattle.hns_encoding.proofs.Blocks.{block-fits, fixed-length, length-values}
+use Rattle.hns_encoding.proofs.Blocks.{block-fits, fixed-length, length-all, length-values}
 use Rattle.hns_encoding.proofs.Forward.{forward, mark-keep}
 use Rattle.hns_refusals.specs.Limits.{blockHeaderSize}
 use Rattle.hns_header_consensus.specs.Layout.{header}
@@ -158,11 +158,6 @@ all-lowServices : (vs : List (Value flatAddress)) → All (Fit flatAddress) vs �
 all-lowServices [] g = tt
 all-lowServices (v ∷ vs) g = (sent-fit v (g .0), all-lowServices vs (g .1))
 
-pub length-all : (f : Format) → Fixed f → (vs : List (Value f)) → All (Fit f) vs → length (writeAll (write f) vs) ≡ length vs * size f
-length-all f x [] g = omega arith
-length-all f x (v ∷ vs) g =
-    omega (arith, length-append (write f v) (writeAll (write f) vs), fixed-length f x v (g .0), length-all f x vs (g .1), suc-mul (length vs) (size f))
-
 module _ (s : List ℕ) where
   abbrev addressCount : ℕ
   addressCount = length s / 67
@@ -205,11 +200,12 @@ items-back f x (v ∷ vs) g before =
     let later′ : valuesAt f x (length vs) (before ++ (write f v ++ writeAll (write f) vs)) (length before + size f) ≡ vs = rw (long, append-assoc) at later in
     ap₂ (λ (w : Value f) (ws : List (Value f)). w ∷ ws) (value-there f x v (g .0) before (writeAll (write f) vs)) later′
 
+pub many-all : (f : Format) → Fixed f → 0 < size f → (vs : List (Value f)) → All (Fit f) vs → length (writeAll (write f) vs) / size f ≡ length vs
+many-all f x h vs g = ap (λ (n : ℕ). n / size f) (length-all f x vs g) ∙ mul-div-cancel (length vs) h
+
 pub flat-back : FlatBack
 unfolding flat
-flat-back f x h vs g =
-    let many : length (writeAll (write f) vs) / size f ≡ length vs = ap (λ (n : ℕ). n / size f) (length-all f x vs g) ∙ mul-div-cancel (length vs) h in
-    rw many (items-back f x vs g [])
+flat-back f x h vs g = rw (many-all f x h vs g) (items-back f x vs g [])
 
 flat-address-fit : (v : Value address) → Fit address v → Fit flatAddress (flatAddressOf v)
 flat-address-fit v g = (g .0, (omega (arith, g .1 .0), (g .1 .1 .1 .0, (g .1 .1 .1 .1 .0, g .1 .1 .1 .1 .1))))

@@ -1,5 +1,5 @@
 -- Flat lists that a writer is given: whole items one after another, and a rest that is ignored.
-use Prim.Native.Nat.{ℕ, _/_, _%_, _^_}
+use Prim.Native.Nat.{ℕ, _/_}
 use mathlib.Core.List.{List, map}
 use mathlib.Core.Path.{refl}
 use lib.ListN.{length}

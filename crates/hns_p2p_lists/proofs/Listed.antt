@@ -1,5 +1,5 @@
 -- The answers of lists: a count and records, and a stop hash after them. Assumes nothing.
-use Prim.Native.Nat.{ℕ, suc, _+_, _-_, _*_, _/_, _%_, _^_, _≤_, _<_}
+use Prim.Native.Nat.{ℕ, _+_, _-_, _*_, _/_, _%_, _^_, _≤_, _<_}
 use mathlib.Core.Path.{_≡_, refl, sym, ap, _∙_, subst}
 use mathlib.Core.List.{List, [], _∷_}
 use native.Mathlib.Omega.{arith}
@@ -13,7 +13,7 @@ use Rattle.hns_refusals.specs.Limits.{maxLocator}
 use Rattle.hns_refusals.specs.Refusals.{unexpectedEnd, locatorField}
 use Rattle.hns_encoding.specs.Bytes.{Bytes, Outcome, got, stop, after, left, bytesAt, endAt, toEnd}
 use Rattle.hns_encoding.specs.Compact.{compactBytes, countAt}
-use Rattle.hns_encoding.specs.Format.{Format, raw, counted, _▸_, Value, read, indexesFrom, widths, sum, size, Fixed, short, valuesAt}
+use Rattle.hns_encoding.specs.Format.{Format, raw, counted, _▸_, Value, read, widths, sum, size, Fixed, short, valuesAt}
 use Rattle.hns_encoding.specs.Answers.{numberOf}
 use Rattle.hns_encoding.specs.declared.Number.{Number}
 use Rattle.hns_encoding.specs.declared.Number.the-variants as N

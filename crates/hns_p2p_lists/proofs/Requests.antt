@@ -37,12 +37,12 @@ index-count (suc n) base s p {is} e =
     let k = after-got (indexesFrom n (base + g .0 + 1) s (g .1)) _ (h .1) in
     one-more {i = base + g .0} {is = k .0} {js = is} (cc (k .3)) (index-count n (base + g .0 + 1) s (g .1) (k .2))
 
-passed-to : (o : Outcome (List ℕ)) {passed : Passed} {next last : ℕ} → passed ≡ passedOf 0 o → passed ≡ X.To next last → (is : List ℕ) × (o ≡ got is next)
+passed-to : (o : Outcome (List ℕ)) {passed : Passed} {next last : ℕ} → passed ≡ passedOf o → passed ≡ X.To next last → (is : List ℕ) × (o ≡ got is next)
 unfolding passedOf
 passed-to (got is end) {next = next} e g = let x : end ≡ next = cc in (is, ap (got is) x)
 passed-to (stop r) e g = let z : _≡_ {A = ℕ} 0 1 = cc in absurd (omega arith)
 
-passed-refused : (o : Outcome (List ℕ)) {passed : Passed} {r : Refusal} → passed ≡ passedOf 0 o → passed ≡ X.Refused r → o ≡ stop r
+passed-refused : (o : Outcome (List ℕ)) {passed : Passed} {r : Refusal} → passed ≡ passedOf o → passed ≡ X.Refused r → o ≡ stop r
 unfolding passedOf
 passed-refused (got is last) e g = let z : _≡_ {A = ℕ} 0 1 = cc in absurd (omega arith)
 passed-refused (stop q) {r = r} e g = let x : q ≡ r = cc in ap stop x
@@ -59,7 +59,7 @@ module _ (s : List ℕ) where
     unfolding fieldsOf row rows toEnd read
     txn-count g = rw (bytes-fits 32 s 0 (omega arith), refusal-read (countAt maxIndexes indexCountField s 32) e g)
 
-    module _ {n first : ℕ} (g : count ≡ N.Value n first) {passed : Passed} (i : passed ≡ passedOf 0 (indexesFrom n 0 s first)) where
+    module _ {n first : ℕ} (g : count ≡ N.Value n first) {passed : Passed} (i : passed ≡ passedOf (indexesFrom n 0 s first)) where
       pub txn-index : {r : Refusal} → passed ≡ X.Refused r → P.Refused r ≡ fieldsOf 24 s
       unfolding fieldsOf row rows toEnd read
       txn-index k = rw (bytes-fits 32 s 0 (omega arith), value-read (countAt maxIndexes indexCountField s 32) e g, passed-refused (indexesFrom n 0 s first) i k)

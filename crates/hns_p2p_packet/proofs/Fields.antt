@@ -11,7 +11,6 @@ use Rattle.hns_refusals.specs.declared.Refusal.{Refusal}
 use Rattle.hns_refusals.specs.Refusals.{payloadTooLarge}
 use Rattle.hns_encoding.specs.Bytes.{Outcome, got, stop, after, bytesAt, endAt, toEnd}
 use Rattle.hns_encoding.specs.Format.{raw, read}
-use Rattle.hns_encoding.specs.declared.Number.the-variants as N
 use Rattle.hns_encoding.proofs.Outcomes.{bytes-fits, toEnd-fits}
 use Rattle.hns_p2p_types.specs.declared.Span.{Span}
 use Rattle.hns_p2p_types.specs.declared.Packet.{Packet}

@@ -16,7 +16,7 @@ use Rattle.hns_encoding.specs.Format.{Format, Value, read, low7, sum, All, Flat
 use Rattle.hns_encoding.specs.Put.{splice}
 use Rattle.hns_encoding.proofs.Numbers.{lt-or-ge, part-add, byte-part}
 use Rattle.hns_encoding.proofs.Outcomes.{choose-got, toEnd-got}
-use Rattle.hns_encoding.proofs.Puts.{splice-fits, splice-append, splice-byte}
+use Rattle.hns_encoding.proofs.Puts.{splice-none, splice-append, splice-byte}
 use Rattle.hns_p2p_types.specs.declared.Span.{Span}
 use Rattle.hns_p2p_types.specs.declared.Packet.{Packet}
 use Rattle.hns_p2p_types.specs.declared.Packet.the-variants as P
@@ -31,7 +31,7 @@ use Rattle.hns_p2p_blocks.proofs.Packets.{text-length, reject-flat}
 -- ---- masked bytes to the output's front
 
 pub mask-none : (o s : List ℕ) (p : ℕ) → o ≡ splice o 0 (map low7 (part s p 0))
-mask-none o s p = sym (splice-fits o 0 [] (omega arith))
+mask-none o s p = sym (splice-none o 0)
 
 pub mask-next : (o s : List ℕ) (p i : ℕ) → p + i < length s → {o′ : List ℕ} → o′ ≡ splice o 0 (map low7 (part s p i)) → set o′ i (getD s (p + i) 0 % 128) ≡ splice o 0 (map low7 (part s p (i + 1)))
 mask-next o s p i h e =
@@ -167,7 +167,7 @@ pub record Texts (t : ℕ) (s : List ℕ) : Type 0 where
 
 refused-text : (r : Refusal) (o : List ℕ) → texted (P.Refused r) [] o ≡ record { packet = P.Refused r; text = o }
 unfolding texted
-refused-text r o = rw (le-leb 0 (length o) (omega arith), splice-fits o 0 [] (omega arith))
+refused-text r o = rw (le-leb 0 (length o) (omega arith), splice-none o 0)
 
 pub texts : (t : ℕ) (s : List ℕ) → Texts t s
 unfolding packetOf readPacket readBy textSpan

@@ -7,8 +7,7 @@ use native.Mathlib.Omega.{arith}
 use native.Mathlib.Nat.{zero-add}
 use lib.ListN.{length, getD, take, drop, length-append, length-take, length-drop}
 use lib.Seq.{take-all, take-append-seam, drop-append-seam}
-use lib.Dec.{leb}
-use borrow.Author.Tests.{le-leb, leb-true}
+use borrow.Author.Tests.{le-leb}
 use denote.Enum.Declared.{tagOf}
 use types.Run.{OneOf, miss}
 use Rattle.hns_refusals.specs.Limits.{maxPayload, maxAddresses, maxInventory, maxHeaders, blockHeaderSize}
@@ -18,16 +17,18 @@ use Rattle.hns_encoding.specs.Compact.{compactBytes}
 use Rattle.hns_encoding.specs.Format.{Format, raw, nothing, whole, counted, Value, read, write, writeAll, Fit, valuesAt}
 use Rattle.hns_encoding.specs.Put.{splice}
 use Rattle.hns_encoding.proofs.Forward.{forward}
-use Rattle.hns_encoding.proofs.Outcomes.{choose-got, toEnd-got, bytes-got}
+use Rattle.hns_encoding.proofs.Blocks.{length-all}
+use Rattle.hns_encoding.proofs.Outcomes.{toEnd-got, bytes-got}
 use Rattle.hns_encoding.proofs.Reading.{raw-there}
 use Rattle.hns_encoding.proofs.Rewritten.{rewritten}
 use Rattle.hns_header_consensus.specs.Layout.{header}
+use Rattle.hns_p2p_types.proofs.Payloads.{by-got, by-reads}
 use Rattle.hns_p2p_types.specs.declared.Span.{Span}
 use Rattle.hns_p2p_types.specs.declared.Hash.the-variants as H
 use Rattle.hns_p2p_types.specs.declared.Packet.{Packet}
 use Rattle.hns_p2p_types.specs.declared.Packet.the-variants as P
 use Rattle.hns_p2p_types.proofs.Packet as packets
-use Rattle.hns_p2p_types.specs.Protocol.{address, addresses, inventoryItem, inventory, locator, headers, version, reject, carriesHash, getblocktxn, getproof, Layout, readBy}
+use Rattle.hns_p2p_types.specs.Protocol.{address, addresses, inventoryItem, inventory, locator, headers, version, reject, carriesHash, getblocktxn, getproof, readBy}
 use Rattle.hns_p2p_types.specs.Packets.{addressAt, spanAt, itemsAt, versionPacket, rejectPacket, Row, rows, rawBytes, row, layout, _&_, texted, Answer, readPacket}
 use Rattle.hns_p2p_lists.proofs.Listed.{list-stands}
 use Rattle.hns_p2p_packet.proofs.Texts.{flat-got}
@@ -36,7 +37,6 @@ use Rattle.hns_p2p_laws.proofs.Places.{places-stand}
 use Rattle.hns_p2p_frame.specs.declared.Encoded.the-variants as E
 use Rattle.hns_p2p_frame.specs.Frame.{Written}
 use Rattle.hns_p2p_block_puts.specs.declared.VersionFields.{VersionFields}
-use Rattle.hns_p2p_list_puts.proofs.Items.{length-all}
 use Rattle.hns_p2p_writer.specs.Writing.{exit}
 use Rattle.hns_p2p_writer.specs.Writers.{givesVersion, givesEmpty, givesNonce, givesAddr, givesInventory, givesLocator, givesHeaders, givesReject, givesFeeFilter, givesSendCmpct, givesGetBlockTxn, givesGetProof, givesRaw}
 use Rattle.hns_p2p_wire.specs.Table.{Writer, by, writers, writer, flatOf, flatAddresses, addressFields, versionFields, hashOf}
@@ -177,23 +177,15 @@ hash-said : (b : Bool) (h : Value (choose b (raw 32) nothing)) (s : List ℕ) (p
 hash-said true h s p e fit = (refl, raw-is 32 s p (ap (λ (l : List (List ℕ)). getD l 0 []) e) fit)
 hash-said false h s p e fit = (refl, refl)
 
-pub reads-by : (l : Layout) (s : List ℕ) → length s ≤ maxPayload → {v : Value (l (length s))} {last : ℕ} → toEnd (read (l (length s))) s ≡ got v last → readBy l s ≡ got v last
-unfolding readBy
-reads-by l s h e = rw (le-leb (length s) maxPayload h) e
-
-pub small : (l : Layout) (s : List ℕ) {v : Value (l (length s))} {last : ℕ} → readBy l s ≡ got v last → (length s ≤ maxPayload) × (toEnd (read (l (length s))) s ≡ got v last)
-unfolding readBy
-small l s e = let g = choose-got (leb (length s) maxPayload) _ _ e in (leb-true _ _ (g .0), g .1)
-
 reject-said : (s : List ℕ) → Bytes s → length s ≤ maxPayload → (v : Value reject) (last : ℕ) → toEnd (read reject) s ≡ got v last
     → (present (rejectPacket s v .hash) ≡ carriesHash (v .0)) × (hashIn s (rejectPacket s v .hash) ≡ hashOf (carriesHash (v .0)) (v .1 .1 .1))
 unfolding row rows rawPlaces columns partsOf
 reject-said s bs h v last e =
-    hash-said (carriesHash (v .0)) (v .1 .1 .1) s (length s - 32) (places-stand 15 s v last (reads-by (layout 15) s h e) .bytes) (fit-of reject s bs v last e .1 .1 .1)
+    hash-said (carriesHash (v .0)) (v .1 .1 .1) s (length s - 32) (places-stand 15 s v last (by-reads (layout 15) s h e) .bytes) (fit-of reject s bs v last e .1 .1 .1)
 
 pub txn-said : (s : List ℕ) → length s ≤ maxPayload → (v : Value getblocktxn) (last : ℕ) → toEnd (read getblocktxn) s ≡ got v last → (o : List ℕ) → rewriting 24 s o ≡ givesGetBlockTxn (v .0) (v .1) o
 unfolding rewriting row rows writer writers
-txn-said s h v last e o = rw (reads-by (layout 24) s h e)
+txn-said s h v last e o = rw (by-reads (layout 24) s h e)
 
 -- ---- type by type
 
@@ -252,7 +244,7 @@ module _ (t : ℕ) (s : List ℕ) (bs : Bytes s) (z : List ℕ) (room : length z
   unfolding readPacket rewriting texted
   by-reading (stop r) e = rw e refl
   by-reading (got v last) e =
-      let g = small (layout t) s e in
+      let g = by-got (layout t) s e in
       let r = row-as t s bs (g .0) v last (g .1) in
       let short : length (row t .text s v) ≤ length z = omega (arith, r .few) in
       rw (e, le-leb (length (row t .text s v)) (length z) short) (r .as-said (splice z 0 (row t .text s v)) o (front-is (row t .text s v) z short))

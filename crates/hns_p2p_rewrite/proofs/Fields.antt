@@ -1,5 +1,5 @@
 -- The fields of an address and of a version from a packet's numbers and places are those that were read. Assumes nothing.
-use Prim.Native.Nat.{ℕ, zero, suc, _+_, _-_, _*_, _≤_, _<_}
+use Prim.Native.Nat.{ℕ, suc, _+_, _-_, _*_, _≤_, _<_}
 use mathlib.Core.Path.{_≡_, refl, sym, ap, ap₂, _∙_}
 use mathlib.Core.Bool.{Bool, true, false}
 use mathlib.Core.List.{List, [], _++_, map}
@@ -9,29 +9,25 @@ use lib.Dec.{eqb}
 use lib.Seq.{take-all, length-take-le}
 use borrow.Author.Tests.{le-leb}
 use Rattle.hns_refusals.specs.Limits.{maxAddresses}
-use Rattle.hns_encoding.specs.Bytes.{le, leBytes, Bytes, none, byte, choose, part, left, numberAt}
+use Rattle.hns_encoding.specs.Bytes.{le, leBytes, Bytes, choose, part, left, numberAt}
 use Rattle.hns_encoding.specs.Format.{Value, ipOf, valueAt, write, valuesAt}
 use Rattle.hns_encoding.specs.Put.{Put}
-use Rattle.hns_encoding.proofs.Blocks.{length-values}
+use Rattle.hns_encoding.proofs.Blocks.{length-all, length-values}
 use Rattle.hns_encoding.proofs.Puts.{put-end, from-start}
-use Rattle.hns_encoding.proofs.Numbers.{leBytes-le, bytes-drop, bytes-take, part-length, part-add}
+use Rattle.hns_encoding.proofs.Numbers.{leBytes-le, bytes-drop, bytes-take, bytes-zeros, part-length, part-add}
 use Rattle.hns_encoding.proofs.Reading.{raw-there}
 use Rattle.hns_p2p_types.specs.declared.NetAddress.{NetAddress}
 use Rattle.hns_p2p_types.specs.Protocol.{address}
 use Rattle.hns_p2p_types.specs.Packets.{addressAt, addressIn}
 use Rattle.hns_p2p_block_puts.specs.declared.AddressFields.{AddressFields}
 use Rattle.hns_p2p_list_puts.specs.Fields.{flatAddress, flatAddressOf}
-use Rattle.hns_p2p_list_puts.proofs.Items.{items-fit, length-all, all-flat}
+use Rattle.hns_p2p_list_puts.proofs.Items.{items-fit, all-flat}
 use Rattle.hns_p2p_wire.proofs.Demand3.{front-is}
 use Rattle.hns_p2p_wire.specs.Table.{flatAddresses, addressFields}
 use Rattle.hns_p2p_fields.specs.Fields.{ipIn, addressFieldsIn}
 use Rattle.hns_p2p_rewrite.specs.Helpers.{flatFields}
 
 -- ---- an ip of 16 bytes is its two numbers
-
-bytes-zeros : (n : ℕ) → Bytes (replicate n 0)
-bytes-zeros zero = none
-bytes-zeros (suc n) = byte {b = 0} (omega arith) (bytes-zeros n)
 
 ip-bytes : (b : Bool) (s : List ℕ) → Bytes s → Bytes (choose b (take 16 s) (replicate 16 0))
 ip-bytes true s bs = bytes-take 16 bs

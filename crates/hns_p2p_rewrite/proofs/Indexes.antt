@@ -10,6 +10,7 @@ use Rattle.hns_refusals.specs.Limits.{maxIndexes}
 use Rattle.hns_encoding.specs.Bytes.{Bytes, Outcome, got, stop, rawAt}
 use Rattle.hns_encoding.specs.Format.{Value}
 use Rattle.hns_encoding.proofs.Puts.{length-splice}
+use Rattle.hns_p2p_types.proofs.Payloads.{by-got}
 use Rattle.hns_p2p_types.specs.declared.Stored.{Stored}
 use Rattle.hns_p2p_types.specs.declared.Stored.the-variants as S
 use Rattle.hns_p2p_types.specs.Protocol.{getblocktxn, always, readBy}
@@ -22,7 +23,7 @@ use Rattle.hns_p2p_writer.specs.Writing.{exit}
 use Rattle.hns_p2p_writer.specs.Writers.{givesGetBlockTxn}
 use Rattle.hns_p2p_wire.specs.Demand3.{rewriting}
 use Rattle.hns_p2p_wire.proofs.Demand3.{front-is}
-use Rattle.hns_p2p_rewrite.proofs.As.{fit-of, small, raw-is, txn-said}
+use Rattle.hns_p2p_rewrite.proofs.As.{fit-of, raw-is, txn-said}
 
 -- the indexes stand at the front of what the call filled, and the writer gives for them what it gives for what was read
 pub record Listed (s o : List ℕ) (n : ℕ) (z : List ℕ) : Type 0 where
@@ -31,12 +32,12 @@ pub record Listed (s o : List ℕ) (n : ℕ) (z : List ℕ) : Type 0 where
 
 module _ (s : List ℕ) (bs : Bytes s) (z : List ℕ) (room : length z ≡ maxIndexes) (o : List ℕ) where
   few-read : (v : Value getblocktxn) (last : ℕ) → readBy (always getblocktxn) s ≡ got v last → length (v .1) ≤ length z
-  few-read v last e = omega (arith, room, fit-of getblocktxn s bs v last (small (always getblocktxn) s e .1) .1 .0)
+  few-read v last e = omega (arith, room, fit-of getblocktxn s bs v last (by-got (always getblocktxn) s e .1) .1 .0)
 
   hash-read : (v : Value getblocktxn) (last : ℕ) → readBy (always getblocktxn) s ≡ got v last → rawAt 32 s 0 ≡ v .0
   unfolding row rows rawPlaces columns partsOf
   hash-read v last e =
-      raw-is 32 s 0 (ap (λ (l : List (List ℕ)). getD l 0 []) (places-stand 24 s v last e .bytes)) (fit-of getblocktxn s bs v last (small (always getblocktxn) s e .1) .0)
+      raw-is 32 s 0 (ap (λ (l : List (List ℕ)). getD l 0 []) (places-stand 24 s v last e .bytes)) (fit-of getblocktxn s bs v last (by-got (always getblocktxn) s e .1) .0)
 
   refused-by : (u : Outcome (Value getblocktxn)) → readBy (always getblocktxn) s ≡ u → {r : Refusal} → storedBy u z .answer ≡ S.Refused r → exit (E.Refused r) o ≡ rewriting 24 s o
   unfolding rewriting row rows
@@ -57,7 +58,7 @@ module _ (s : List ℕ) (bs : Bytes s) (z : List ℕ) (room : length z ≡ maxIn
       let test = le-leb (length (v .1)) (length z) few in
       let many : length (v .1) ≡ n = cc (rw test at q) in
       let filled = rw test at f in
-      let g = small (always getblocktxn) s e in
+      let g = by-got (always getblocktxn) s e in
       record { inside = omega (arith, many, few, ap length filled, length-splice z 0 (v .1)); gives = rw (← many, filled, front-is (v .1) z few, hash-read v last e) (sym (txn-said s (g .0) v last (g .1) o)) }
 
   pub indexes-listed : {a : Stored} {n : ℕ} {z′ : List ℕ} → a ≡ storedOf s z .answer → a ≡ S.Count n → z′ ≡ storedOf s z .output → Listed s o n z′

@@ -187,6 +187,16 @@ noAddress = record { time = 0; services = 0; «ip_first» = 0; «ip_last» = 0; 
 unfoldable pub addressIn : List ℕ → ℕ → NetAddress
 addressIn s at = choose (leb 88 (left s at)) (addressAt at (valueAt address _ s at)) noAddress
 
+-- ---- items as numbers one after another
+
+-- the fields of an address in their order
+abbrev pub addressNumbers : NetAddress → List ℕ
+addressNumbers a = a .time ∷ a .services ∷ a .«ip_first» ∷ a .«ip_last» ∷ a .port ∷ a .key ∷ []
+
+-- the kind, and the place of the hash
+abbrev pub inventoryNumbers : ℕ → ℕ → List ℕ
+inventoryNumbers kind hash = kind ∷ hash ∷ []
+
 -- ---- what reading answers, and what the output for a text then holds
 
 pub record Answer : Type 0 where

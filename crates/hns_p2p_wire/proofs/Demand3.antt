@@ -6,16 +6,15 @@ use mathlib.Core.Logic.{⊎-elim}
 use native.Mathlib.Omega.{arith}
 use lib.ListN.{length, getD, take, drop}
 use lib.Seq.{take-append-seam}
-use lib.Dec.{leb}
 use lib.IntN.{pos, negℤ}
-use borrow.Author.Tests.{le-leb, leb-true, lt-ltb, le-ltb}
+use borrow.Author.Tests.{le-leb, lt-ltb, le-ltb}
 use Rattle.hns_encoding.specs.Bytes.{choose, Bytes, Outcome, got, stop, toEnd}
 use Rattle.hns_encoding.specs.Format.{Format, nothing, num, raw, Value, read, write, Fit, All}
 use Rattle.hns_encoding.specs.Put.{splice}
 use Rattle.hns_encoding.proofs.Numbers.{lt-or-ge}
-use Rattle.hns_encoding.proofs.Outcomes.{choose-got}
 use Rattle.hns_encoding.proofs.Puts.{splice-fits}
 use Rattle.hns_encoding.proofs.Rewritten.{rewritten}
+use Rattle.hns_p2p_types.proofs.Payloads.{by-got}
 use Rattle.hns_p2p_types.specs.declared.Packet.{Packet}
 use Rattle.hns_p2p_types.specs.declared.Packet.the-variants as P
 use Rattle.hns_p2p_types.specs.declared.Hash.the-variants as H
@@ -53,8 +52,7 @@ reads-small l x n e =
 
 module _ (l : Layout) (s : List ℕ) (bs : Bytes s) (v : Value (l (length s))) (last : ℕ) (e : readBy l s ≡ got v last) where
   small : (length s ≤ 8000000) × (toEnd (read (l (length s))) s ≡ got v last)
-  unfolding readBy
-  small = let g = choose-got (leb (length s) 8000000) _ _ e in (leb-true _ _ (g .0), g .1)
+  small = by-got l s e
 
   long : length (zeroed l s) ≡ length s
   long = let r = rewritten (l (length s)) s bs v last (small .1) in ap length (sym (r .zeroed)) ∙ r .as-long

@@ -1,10 +1,9 @@
 -- A packet that was read, given to its writer: it passes the writer's tests, and is what the writer writes. Assumes nothing.
 use Prim.Native.Nat.{ℕ, _/_, _%_, _^_, _≤_, _<_}
-use mathlib.Core.Path.{_≡_, refl, sym, ap, _∙_}
+use mathlib.Core.Path.{_≡_, refl, sym, ap}
 use mathlib.Core.Bool.{Bool, true, false}
 use mathlib.Core.List.{List, map}
 use native.Mathlib.Omega.{arith}
-use native.Mathlib.Nat.{mul-div-cancel}
 use lib.ListN.{length, length-map}
 use borrow.Author.Tests.{le-leb}
 use Rattle.hns_refusals.specs.Limits.{maxPayload, maxAddresses, maxInventory, maxLocator, maxHeaders, blockHeaderSize}
@@ -28,7 +27,7 @@ use Rattle.hns_p2p_plans.proofs.Indexes.{indexes-pass}
 use Rattle.hns_p2p_plans.proofs.Texts.{text-pass}
 use Rattle.hns_p2p_block_puts.specs.Fields.{versionOf, hashIf, rejectOf}
 use Rattle.hns_p2p_list_puts.specs.Fields.{flatAddress, addressesOf, inventoryOf, hashesOf, headersOf, flatAddressOf}
-use Rattle.hns_p2p_list_puts.proofs.Items.{flat-back, addresses-back, length-all, all-flat}
+use Rattle.hns_p2p_list_puts.proofs.Items.{many-all, flat-back, addresses-back, all-flat}
 use Rattle.hns_p2p_writer.specs.Writing.{exit, settle, writing}
 use Rattle.hns_p2p_wire.specs.Table.{flatOf, flatAddresses, versionFields, hashOf}
 
@@ -42,11 +41,8 @@ indexes-given v fit = record { same = refl; passed = indexes-pass (v .1) (fit .1
 
 -- ---- flat lists
 
-many-flat : (f : Format) → Fixed f → 0 < size f → (vs : List (Value f)) → All (Fit f) vs → length (flatOf f vs) / size f ≡ length vs
-many-flat f x h vs g = ap (λ (n : ℕ). n / size f) (length-all f x vs g) ∙ mul-div-cancel (length vs) h
-
 flat-passed : (f : Format) → Fixed f → 0 < size f → (limit field : ℕ) (vs : List (Value f)) → length vs ≤ limit → All (Fit f) vs → within (length (flatOf f vs) / size f) limit field ≡ C.Passed
-flat-passed f x h limit field vs few g = rw (many-flat f x h vs g) (sym (within-limit (length vs) limit field few))
+flat-passed f x h limit field vs few g = rw (many-all f x h vs g) (sym (within-limit (length vs) limit field few))
 
 pub addresses-given : (v : Value addresses) → Fit addresses v → Given addresses (within (length (flatAddresses v) / 67) maxAddresses addressField) (addressesOf (flatAddresses v)) v
 addresses-given v fit =

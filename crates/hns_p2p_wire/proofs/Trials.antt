@@ -1,5 +1,5 @@
 -- Wrong rewriters are refuted, each by one payload. Assumes nothing.
-use Prim.Native.Nat.{ℕ, zero, suc, _≤_}
+use Prim.Native.Nat.{ℕ, _≤_}
 use mathlib.Core.Path.{_≡_, refl, ap}
 use mathlib.Core.List.{List, [], _∷_, _++_}
 use native.Mathlib.Omega.{arith}
@@ -8,21 +8,18 @@ use Rattle.hns_encoding.specs.Bytes.{le, Bytes, none, byte, bytesAt, leAt, endA
 use Rattle.hns_encoding.specs.Format.{read, Value}
 use Rattle.hns_encoding.specs.Marks.{marks}
 use Rattle.hns_encoding.specs.Put.{splice}
+use Rattle.hns_encoding.proofs.Numbers.{bytes-append, bytes-zeros}
 use Rattle.hns_p2p_types.specs.Protocol.{readBy}
 use Rattle.hns_p2p_types.specs.Packets.{rows, row, layout}
 use Rattle.hns_p2p_wire.specs.Demand3.{Again, Rewrites, Rewriter}
 use Rattle.hns_p2p_wire.specs.Trials.{leavesReserved, skipsReserved, copies, dropsLast, dropsLastAnswersAll, writesPastEnd, refusesAll, TrialsFail}
-
-bytes-zeros : (n : ℕ) {s : List ℕ} → Bytes s → Bytes (replicate n 0 ++ s)
-bytes-zeros zero h = h
-bytes-zeros (suc n) h = byte {b = 0} (omega arith) (bytes-zeros n h)
 
 -- a version payload whose first reserved word is not zero
 abbrev payload : List ℕ
 payload = replicate 8 0 ++ (1 ∷ (replicate 113 0 ++ []))
 
 payload-bytes : Bytes payload
-payload-bytes = bytes-zeros 8 (byte {b = 1} (omega arith) (bytes-zeros 113 none))
+payload-bytes = bytes-append (bytes-zeros 8) (byte {b = 1} (omega arith) (bytes-append (bytes-zeros 113) none))
 
 -- a byte of a raw payload
 abbrev single : List ℕ

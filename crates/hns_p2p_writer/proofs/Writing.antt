@@ -1,21 +1,19 @@
 -- The law of every writer: its plan refuses and the output stays, or the payload is put at the output's front. Assumes nothing.
 use Prim.Native.Nat.{ℕ}
 use mathlib.Core.Path.{_≡_, sym, _∙_}
-use mathlib.Core.List.{List, _∷_, append-assoc}
+use mathlib.Core.List.{List}
 use lib.ListN.{length}
 use Rattle.hns_refusals.specs.declared.Refusal.{Refusal}
 use Rattle.hns_encoding.specs.Put.{Put}
-use Rattle.hns_encoding.specs.Bytes.{leBytes}
-use Rattle.hns_encoding.proofs.Puts.{then}
 use Rattle.hns_p2p_frame.specs.declared.Encoded.the-variants as E
-use Rattle.hns_p2p_frame.specs.Frame.{magic, encoding, Written}
+use Rattle.hns_p2p_frame.specs.Frame.{Written}
 use Rattle.hns_p2p_plans.specs.declared.Checked.{Checked}
 use Rattle.hns_p2p_plans.specs.declared.Checked.the-variants as C
 use Rattle.hns_p2p_plans.specs.declared.Plan.{Plan}
 use Rattle.hns_p2p_plans.specs.declared.Plan.the-variants as P
 use Rattle.hns_p2p_plans.specs.Tests.{first, room, planned}
 use Rattle.hns_p2p_plans.proofs.Tests.{plan-of-write, plan-of-refused}
-use Rattle.hns_p2p_writer.specs.Writing.{exit, settle, writing, Framed}
+use Rattle.hns_p2p_writer.specs.Writing.{exit, settle, writing}
 
 module _ (tests : Checked) (x o : List ℕ) {n : ℕ} (size : n ≡ length x) {plan : Plan} (e : plan ≡ planned tests n (length o)) where
   pub refused : {r : Refusal} → plan ≡ P.Refused r → exit (E.Refused r) o ≡ writing tests x o
@@ -30,8 +28,3 @@ module _ (tests : Checked) (x o : List ℕ) {n : ℕ} (size : n ≡ length x) {p
       let w = plan-of-write _ n (sym e ∙ q) in
       let k : first tests (room (length x) (length o)) ≡ C.Passed = rw (← size) (w .0) in
       rw (k, put .bytes, w .1, size)
-
-pub framed : Framed
-unfolding encoding
-framed net f o o₁ o₂ at at₁ at₂ h a b =
-    rw (append-assoc (magic net) (f .packetType ∷ leBytes 4 (length (f .payload))) (f .payload)) at (then h a b)

@@ -2,13 +2,8 @@
 use hns_encoder::Encoder;
 use hns_p2p_block_puts::VersionFields;
 use hns_p2p_frame::Encoded;
-use hns_p2p_frame::NetworkMagic;
 use hns_p2p_plans::Plan;
 ghost use mathlib.Core.Path.{_≡_};
-ghost use mathlib.Core.List.{_++_, _∷_};
-ghost use Rattle.hns_encoding.specs.Bytes.{leBytes};
-ghost use Rattle.hns_encoding.specs.Put.{Put};
-ghost use Rattle.hns_p2p_frame.specs.Frame.{magic};
 ghost use Rattle.hns_p2p_writer.specs.Writing.{exit};
 ghost use Rattle.hns_p2p_writer.specs.Writers.{givesVersion, givesEmpty, givesNonce, givesAddr, givesInventory, givesLocator, givesHeaders, givesReject, givesFeeFilter, givesSendCmpct, givesGetBlockTxn, givesGetProof, givesRaw};
 
@@ -169,20 +164,4 @@ pub fn write_raw(payload: &[u8], out: &mut [u8]) -> Encoded
             Encoded::Written(needed)
         }
     }
-}
-
-// The nine bytes of a frame before its payload, which a put of the payload can follow in the same output.
-pub fn put_frame_header(
-    encoder: Encoder,
-    out: &mut [u8],
-    network: NetworkMagic,
-    packet_type: u8,
-    length: u32,
-) -> Encoder
-    ensures { λ r. ⌜ Put (now (out .entry)) (encoder .position) (magic network ++ («packet_type» ∷ leBytes 4 length)) (now (out .exit)) (r .position) ⌝ }
-{
-    let bytes = network.as_bytes();
-    let e = encoder.put_bytes(out, &bytes);
-    let e = e.put_u8(out, packet_type);
-    e.put_u32_le(out, length)
 }

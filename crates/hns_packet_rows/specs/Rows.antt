@@ -8,7 +8,6 @@ use Rattle.hns_p2p_types.specs.declared.Span.{Span}
 use Rattle.hns_p2p_types.specs.declared.Items.{Items}
 use Rattle.hns_p2p_types.specs.declared.Hash.{Hash}
 use Rattle.hns_p2p_types.specs.declared.Hash.the-variants as H
-use Rattle.hns_p2p_types.specs.declared.NetAddress.{NetAddress}
 use Rattle.hns_p2p_types.specs.declared.VersionPacket.{VersionPacket}
 use Rattle.hns_p2p_types.specs.declared.Packet.{Packet}
 use Rattle.hns_p2p_types.specs.declared.Packet.the-variants as P
@@ -18,8 +17,7 @@ use Rattle.hns_p2p_types.specs.declared.Found.{Found}
 use Rattle.hns_p2p_types.specs.declared.Found.the-variants as F
 use Rattle.hns_p2p_types.specs.declared.Stored.{Stored}
 use Rattle.hns_p2p_types.specs.declared.Stored.the-variants as S
-use Rattle.hns_p2p_types.specs.Packets.{signedBits}
-use Rattle.hns_p2p_item_numbers.specs.Numbers.{addressNumbers, inventoryNumbers}
+use Rattle.hns_p2p_types.specs.Packets.{signedBits, addressNumbers, inventoryNumbers}
 use Rattle.hns_p2p_card.specs.declared.Row.{Row}
 
 -- sixteen numbers of which these are the first

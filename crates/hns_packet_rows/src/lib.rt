@@ -18,37 +18,26 @@ ghost use mathlib.Core.List.{_∷_, []};
 ghost use Prim.Native.Nat.{_≤_};
 ghost use lib.ListN.{length};
 ghost use lib.Seq.{paste};
-ghost use Rattle.hns_p2p_item_numbers.specs.Numbers.{addressNumbers};
+ghost use Rattle.hns_p2p_types.specs.Packets.{addressNumbers};
 ghost use Rattle.hns_rows.specs.Rows.{answered};
-ghost use Rattle.hns_packet_rows.specs.Rows.{row, refusedRow, itemsRow, spanRow, bit, versionRow, hashNumbers, packetRow, itemRow, foundRow, storedRow, cardNumbers};
+ghost use Rattle.hns_packet_rows.specs.Rows.{filled, row, refusedRow, itemsRow, spanRow, bit, versionRow, hashNumbers, packetRow, itemRow, foundRow, storedRow, cardNumbers};
+
+fn of_seven(a: u64, b: u64, c: u64, d: u64, e: u64, f: u64, g: u64) -> [u64; 16]
+    ensures { λ r. ⌜ r ≡ filled (a ∷ b ∷ c ∷ d ∷ e ∷ f ∷ g ∷ []) ⌝ }
+{
+    [a, b, c, d, e, f, g, 0, 0, 0, 0, 0, 0, 0, 0, 0]
+}
 
 fn of_refusal(refusal: Refusal) -> [u64; 16]
     ensures { λ r. ⌜ r ≡ refusedRow refusal ⌝ }
 {
-    [
-        refusal.number,
-        refusal.a,
-        refusal.b,
-        refusal.c,
-        0,
-        0,
-        0,
-        0,
-        0,
-        0,
-        0,
-        0,
-        0,
-        0,
-        0,
-        0,
-    ]
+    of_seven(refusal.number, refusal.a, refusal.b, refusal.c, 0, 0, 0)
 }
 
 fn of_three(a: u64, b: u64, c: u64) -> [u64; 16]
     ensures { λ r. ⌜ r ≡ row (a ∷ b ∷ c ∷ []) ⌝ }
 {
-    [0, a, b, c, 0, 0, 0, 0, 0, 0, 0, 0, 0, 0, 0, 0]
+    of_seven(0, a, b, c, 0, 0, 0)
 }
 
 fn of_items(items: Items) -> [u64; 16]
@@ -112,49 +101,41 @@ fn of_version(version: VersionPacket) -> [u64; 16]
     ]
 }
 
+// 1 and the place of a hash, or 0 twice.
+struct HashNumbers {
+    there: u64,
+    place: u64,
+}
+
+fn of_hash(hash: Hash) -> HashNumbers
+    ensures { λ r. ⌜ r .there ∷ r .place ∷ [] ≡ hashNumbers hash ⌝ }
+{
+    match hash {
+        Hash::At(place) => HashNumbers {
+            there: 1,
+            place: place as u64,
+        },
+        Hash::Absent => HashNumbers { there: 0, place: 0 },
+    }
+}
+
 fn of_reject(reject: RejectPacket) -> [u64; 16]
     ensures { λ r. ⌜ r ≡ row (reject .message ∷ reject .code ∷ reject .reason .start ∷ reject .reason .length ∷ hashNumbers (reject .hash)) ⌝ }
 {
     let reason = reject.reason;
     let hash = reject.hash;
-    match hash {
-        Hash::At(place) => [
-            0,
-            reject.message as u64,
-            reject.code as u64,
-            reason.start as u64,
-            reason.length as u64,
-            1,
-            place as u64,
-            0,
-            0,
-            0,
-            0,
-            0,
-            0,
-            0,
-            0,
-            0,
-        ],
-        Hash::Absent => [
-            0,
-            reject.message as u64,
-            reject.code as u64,
-            reason.start as u64,
-            reason.length as u64,
-            0,
-            0,
-            0,
-            0,
-            0,
-            0,
-            0,
-            0,
-            0,
-            0,
-            0,
-        ],
-    }
+    let hash = of_hash(hash);
+    let message = reject.message as u64;
+    let code = reject.code as u64;
+    of_seven(
+        0,
+        message,
+        code,
+        reason.start as u64,
+        reason.length as u64,
+        hash.there,
+        hash.place,
+    )
 }
 
 // A row by the packet's numbers and places; all rows are as long as that of a version, the longest.
@@ -200,24 +181,16 @@ pub fn of_packet(packet: Packet) -> [u64; 16]
 fn of_address(address: NetAddress) -> [u64; 16]
     ensures { λ r. ⌜ r ≡ row (addressNumbers address) ⌝ }
 {
-    [
+    let a = address;
+    of_seven(
         0,
-        address.time,
-        address.services,
-        address.ip_first,
-        address.ip_last,
-        address.port as u64,
-        address.key as u64,
-        0,
-        0,
-        0,
-        0,
-        0,
-        0,
-        0,
-        0,
-        0,
-    ]
+        a.time,
+        a.services,
+        a.ip_first,
+        a.ip_last,
+        a.port as u64,
+        a.key as u64,
+    )
 }
 
 pub fn of_item(item: Item) -> [u64; 16]

@@ -1,7 +1,7 @@
-use Prim.Native.Nat.{_<_, _≤_, _^_}
+use Prim.Native.Nat.{_<_, _^_}
 use mathlib.Core.Path.{ap}
 use native.Mathlib.Omega.{arith}
-use lib.ListN.{length, take, length-take}
+use lib.ListN.{length, length-take}
 use Rattle.hns_encoding.proofs.Puts.{_⨟_}
 use borrow.Author.Needs.{needs}
 use Rattle.hns_p2p_block_puts.proofs.put_text.Statement.{statement}

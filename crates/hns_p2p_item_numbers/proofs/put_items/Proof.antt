@@ -12,11 +12,11 @@ Inv-loop payload addresses first count out₀ bytes many at₀ to₀ i₀ out at
 abbrev μ-loop : tie.MeasureT-loop
 μ-loop payload addresses first count out₀ bytes many at₀ to₀ i₀ out at to i = count - i
 
-bytes-of-requires : tie.Need-bytes-of-requires Inv-loop μ-loop
-bytes-of-requires c κs = search needs
+bytes-each-requires : tie.Need-bytes-each-requires Inv-loop μ-loop
+bytes-each-requires c κs = search needs
 
-many-of-requires : tie.Need-many-of-requires Inv-loop μ-loop
-many-of-requires c κs = search needs
+numbers-each-requires : tie.Need-numbers-each-requires Inv-loop μ-loop
+numbers-each-requires c κs = search needs
 
 loop-holds : tie.Need-loop-holds Inv-loop μ-loop
 loop-holds c = let a = c .before .before .before .before .args in store-start (a .addresses) (a .payload .now) (a .first) (a .count) (a .out .now)
@@ -31,13 +31,13 @@ put-item-requires c κs =
 add-at : tie.Need-add-at Inv-loop μ-loop
 add-at c =
     let p = c .before .before .before .before .before .before .before .before .before .before .pre in
-    omega (arith, store-inside (c .before .before .before .before .before .loop .inv) (c .before .before .before .before .loop-test .taken) (p .0), c .before .before .before .before .before .before .before .bytes-of .ensures)
+    omega (arith, store-inside (c .before .before .before .before .before .loop .inv) (c .before .before .before .before .loop-test .taken) (p .0), c .before .before .before .before .before .before .before .bytes-each .ensures)
 
 add-to : tie.Need-add-to Inv-loop μ-loop
 add-to c =
     let p = c .before .before .before .before .before .before .before .before .before .before .pre in
     let l = c .before .before .before .before .before .loop .inv in
-    omega (arith, store-room l (c .before .before .before .before .loop-test .taken) (p .1), l .long, c .before .before .before .before .before .before .many-of .ensures)
+    omega (arith, store-room l (c .before .before .before .before .loop-test .taken) (p .1), l .long, c .before .before .before .before .before .before .numbers-each .ensures)
 
 add-i : tie.Need-add-i Inv-loop μ-loop
 add-i c = omega arith
@@ -47,7 +47,7 @@ loop-less c = omega arith
 
 loop-again : tie.Need-loop-again Inv-loop μ-loop
 loop-again c =
-    rw (c .before .before .before .before .before .before .before .bytes-of .ensures, c .before .before .before .before .before .before .many-of .ensures)
+    rw (c .before .before .before .before .before .before .before .bytes-each .ensures, c .before .before .before .before .before .before .numbers-each .ensures)
     (store-next (c .before .before .before .before .before .loop .inv) (c .before .before .before .before .loop-test .taken) (c .before .before .put-item .ensures))
 
 same-length : tie.Need-same-length Inv-loop μ-loop
@@ -62,8 +62,8 @@ put-items-spec =
     (tie.spec
     Inv-loop
     μ-loop
-    bytes-of-requires
-    many-of-requires
+    bytes-each-requires
+    numbers-each-requires
     loop-holds
     put-item-requires
     add-at

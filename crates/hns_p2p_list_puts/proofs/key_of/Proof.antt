@@ -1,6 +1,5 @@
 use native.Mathlib.Omega.{arith}
 use mathlib.Core.Path.{_∙_}
-use lib.ListN.{length}
 use Rattle.hns_encoding.proofs.Numbers.{part-length}
 use Rattle.hns_encoding.proofs.Puts.{put-all, _⨟_}
 use Rattle.hns_p2p_list_puts.proofs.Items.{key-parts}

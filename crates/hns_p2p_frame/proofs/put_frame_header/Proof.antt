@@ -3,8 +3,8 @@ use native.Mathlib.Omega.{arith}
 use lib.ListN.{length}
 use Rattle.hns_encoding.proofs.Puts.{_⨟_}
 use borrow.Author.Needs.{needs}
-use Rattle.hns_p2p_writer.proofs.put_frame_header.Statement.{statement}
-use Rattle.hns_p2p_writer.proofs.put_frame_header.Tie as tie
+use Rattle.hns_p2p_frame.proofs.put_frame_header.Statement.{statement}
+use Rattle.hns_p2p_frame.proofs.put_frame_header.Tie as tie
 
 as-bytes-requires : tie.Need-as-bytes-requires
 as-bytes-requires c κs = search needs
