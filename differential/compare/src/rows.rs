@@ -9,21 +9,17 @@ use crate::packets::packet_type;
 
 /// Numbers that are lent, two more than the longest row has.
 const LENT: usize = 18;
-const UNSET: u64 = u64::MAX - 1;
+const UNSET: u64 = 777_777;
 /// Room for what a call puts out, which is too little for some.
 const ROOM: usize = 300;
 
-/// A call, how many numbers its row has, and how many of these it uses.
+/// A call, how many numbers its row has, and how many of these it uses, accepted or refused.
 struct Call<'case> {
     name: &'static str,
     width: usize,
     used: Box<dyn Fn(&[u64]) -> usize + 'case>,
+    refused: usize,
     ask: Box<dyn Fn(*mut u64, usize) + 'case>,
-}
-
-/// A refused row has a number and three values.
-fn used(row: &[u64], accepted: usize) -> usize {
-    if row[0] == 0 { accepted } else { 4 }
 }
 
 macro_rules! call {
@@ -32,6 +28,7 @@ macro_rules! call {
             name: stringify!($name),
             width: $width,
             used: Box::new($used),
+            refused: 4,
             // SAFETY: the pointers and counts are those of slices, and they do not overlap.
             ask: Box::new(move |answer, n| unsafe { ffi::$name($($argument,)* answer, n) }),
         }
@@ -48,7 +45,10 @@ impl Call<'_> {
     /// With every length of what is lent.
     fn check(&self) -> Verdict {
         let whole = self.lent(LENT);
-        let used = (self.used)(&whole);
+        let used = match whole[0] {
+            0 => (self.used)(&whole),
+            _ => self.refused,
+        };
         let mut expected = [UNSET; LENT];
         expected[..self.width].fill(0);
         expected[..used].copy_from_slice(&whole[..used]);
@@ -72,12 +72,12 @@ pub fn check(case: &Case) -> Verdict {
     let mut out = filled(ROOM);
     let mut store = filled(case.bytes.len());
     let mut numbers = [UNSET; ROOM];
-    let to = out.as_mut_ptr();
+    let (to, many) = (out.as_mut_ptr(), numbers.as_mut_ptr());
     let calls = [
-        reads(case, to),
+        reads(case, to, many),
         frames(case, to, store.as_mut_ptr()),
         packets(case, to),
-        lists(case, numbers.as_mut_ptr()),
+        lists(case, many),
         writers(case, to),
     ];
     let calls = calls.iter().flatten();
@@ -86,59 +86,43 @@ pub fn check(case: &Case) -> Verdict {
     })
 }
 
-fn reads(case: &Case, to: *mut u8) -> Vec<Call<'_>> {
+fn reads(case: &Case, to: *mut u8, many: *mut u64) -> Vec<Call<'_>> {
     let (input, len) = (case.bytes.as_ptr(), case.bytes.len());
     let at = case.number(1) as usize;
-    let three = |row: &[u64]| used(row, 3);
     vec![
-        call!(6, three, hns_read_compact_size(input, len, at)),
-        call!(6, three, hns_read_varbytes(input, len, at, len)),
-        call!(6, |row| used(row, 1), hns_finish(input, len, at)),
-        call!(
-            6,
-            |row| used(row, 6),
-            hns_read_header(input, len, at, to, ROOM)
-        ),
+        call!(6, |_| 3, hns_read_compact_size(input, len, at)),
+        call!(6, |_| 3, hns_read_compact_sizes(input, len, at, many, ROOM)),
+        call!(6, |_| 3, hns_read_varbytes(input, len, at, len)),
+        call!(6, |_| 1, hns_finish(input, len, at)),
+        call!(6, |_| 6, hns_read_header(input, len, at, to, ROOM)),
     ]
 }
 
-/// A push gives the held count after what it delivers or why it is refused.
 fn frames(case: &Case, to: *mut u8, store: *mut u8) -> Vec<Call<'_>> {
     let (input, len) = (case.bytes.as_ptr(), case.bytes.len());
-    let (network, kind) = (case.network as u8, packet_type(case));
-    let whole = |row: &[u64]| used(row, if row[1] == 1 { 5 } else { 2 });
-    let pushed = |row: &[u64]| if row[0] == 0 { 4 } else { 5 };
+    let (on, kind) = (case.network as u8, packet_type(case));
+    let whole = |row: &[u64]| if row[1] == 1 { 5 } else { 2 };
+    let pushed = call!(6, |_| 4, hns_push(on, store, len, 0, input, len, to, ROOM));
     vec![
-        call!(6, whole, hns_decode_frame_prefix(network, input, len)),
-        call!(6, |row| used(row, 3), hns_decode_exact(network, input, len)),
-        call!(
-            6,
-            |row| used(row, 2),
-            hns_encode_frame(network, kind, input, len, to, ROOM)
-        ),
-        call!(
-            6,
-            pushed,
-            hns_push(network, store, len, 0, input, len, to, ROOM)
-        ),
+        call!(6, whole, hns_decode_frame_prefix(on, input, len)),
+        call!(6, |_| 3, hns_decode_exact(on, input, len)),
+        call!(6, |_| 2, hns_encode_frame(on, kind, input, len, to, ROOM)),
+        // The held count stands after the values of its refusal.
+        Call {
+            refused: 5,
+            ..pushed
+        },
     ]
 }
 
 fn packets(case: &Case, to: *mut u8) -> Vec<Call<'_>> {
     let (input, len) = (case.bytes.as_ptr(), case.bytes.len());
     let kind = packet_type(case);
+    let of_packet = move |row: &[u64]| of_packet(kind, row);
     vec![
-        call!(
-            16,
-            move |row| used(row, of_packet(kind, row)),
-            hns_read_packet(kind, input, len, to, ROOM)
-        ),
+        call!(16, of_packet, hns_read_packet(kind, input, len, to, ROOM)),
         call!(16, |_| 3, hns_length_card(kind)),
-        call!(
-            6,
-            |row| used(row, 2),
-            hns_rewrite(kind, input, len, to, ROOM)
-        ),
+        call!(6, |_| 2, hns_rewrite(kind, input, len, to, ROOM)),
     ]
 }
 
@@ -165,28 +149,29 @@ pub const fn of_item(kind: u8) -> usize {
 }
 
 /// The hash to find is that of the item at the place, or of zeros.
-fn lists(case: &Case, to: *mut u64) -> Vec<Call<'_>> {
+fn lists(case: &Case, many: *mut u64) -> Vec<Call<'_>> {
     let (input, len) = (case.bytes.as_ptr(), case.bytes.len());
     let (kind, place) = (packet_type(case), case.number(1) as usize);
-    let of_item = move |row: &[u64]| used(row, of_item(kind));
-    let stored = |row: &[u64]| used(row, 2);
-    let found = |row: &[u64]| used(row, if row[1] == 1 { 3 } else { 2 });
+    let found = |row: &[u64]| if row[1] == 1 { 3 } else { 2 };
     let at = place.saturating_mul(36).saturating_add(5);
     let hash = case.bytes.get(at..).and_then(|from| from.first_chunk());
     let hash = hash.unwrap_or(&[0; 32]).as_ptr();
     vec![
-        call!(16, of_item, hns_item(kind, input, len, place)),
-        call!(16, stored, hns_indexes(input, len, to, ROOM)),
-        call!(16, stored, hns_item_numbers(kind, input, len, to, ROOM)),
+        call!(
+            16,
+            move |_| of_item(kind),
+            hns_item(kind, input, len, place)
+        ),
+        call!(16, |_| 2, hns_indexes(input, len, many, ROOM)),
+        call!(16, |_| 2, hns_item_numbers(kind, input, len, many, ROOM)),
         call!(16, found, hns_find(kind, input, len, hash, 32)),
     ]
 }
 
 fn writers(case: &Case, to: *mut u8) -> Vec<Call<'_>> {
     let (input, len) = (case.bytes.as_ptr(), case.bytes.len());
-    let length = |row: &[u64]| used(row, 2);
     vec![
-        call!(6, length, hns_write_raw(input, len, to, ROOM)),
-        call!(6, length, hns_write_inventory(input, len, to, ROOM)),
+        call!(6, |_| 2, hns_write_raw(input, len, to, ROOM)),
+        call!(6, |_| 2, hns_write_inventory(input, len, to, ROOM)),
     ]
 }
