@@ -49,7 +49,7 @@ fn shortest(kind: u8) -> Vec<u8> {
 }
 
 /// As many items as a list may have, 255 bytes of text, a hash where there may be one.
-pub fn longest(kind: u8) -> Vec<u8> {
+fn longest(kind: u8) -> Vec<u8> {
     match kind {
         0 => [&[0; 116][..], &[255], &[0; 255 + 5]].concat(),
         5..=11 => {

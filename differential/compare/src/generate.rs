@@ -403,7 +403,7 @@ fn packet(rng: &mut Rng, kind: Kind) -> Case {
         _ if rng.one_in(20) => edge(rng) as usize,
         _ => rng.index(6),
     };
-    // One of two: room one short for all items. For a hash: itself, a bit beside it, other bytes.
+    // Whether the room for all items is one short; or which hash is looked for.
     let third = match kind {
         Kind::Find if rng.one_in(2) => rng.below(260 + bytes.len().min(200) as u64),
         Kind::Find => 0,

@@ -109,13 +109,16 @@ fn counts(short: bool, run: &mut impl FnMut(&Case)) {
     }
 }
 
-/// Inventories of a few items: the hash of each and of none, with each bit changed, and all bytes of
-/// the payload that stand together.
+/// Inventories of a few items, the last of three or more being the first again: the hash of each and
+/// of none, with each bit changed, and all bytes of the payload that stand together.
 fn finds(run: &mut impl FnMut(&Case)) {
     let mut rng = Rng::new(4);
     for packet_type in 6..=8 {
         for count in [0, 1, 2, 3, 9] {
-            let bytes = [vec![count as u8], rng.bytes(count * 36)].concat();
+            let mut bytes = [vec![count as u8], rng.bytes(count * 36)].concat();
+            if count > 2 {
+                bytes.copy_within(1..37, 1 + (count - 1) * 36);
+            }
             let mut case = Case::new(Kind::Find, bytes, &[packet_type, 0, 0]);
             for place in 0..=count {
                 for other in 0..=257 + count * 36 {
