@@ -13,11 +13,13 @@ const UNSET: u64 = 777_777;
 /// Room for what a call puts out, which is too little for some.
 const ROOM: usize = 300;
 
+type Used<'case> = Box<dyn Fn(&[u64]) -> usize + 'case>;
+
 /// A call, how many numbers its row has, and how many of these it uses, accepted or refused.
 struct Call<'case> {
     name: &'static str,
     width: usize,
-    used: Box<dyn Fn(&[u64]) -> usize + 'case>,
+    used: Used<'case>,
     refused: usize,
     ask: Box<dyn Fn(*mut u64, usize) + 'case>,
 }
