@@ -4,6 +4,8 @@ use std::fmt;
 
 use hns_port::NetworkMagic;
 
+use crate::packets::{CARRIED, packet_type};
+
 #[derive(Clone, Copy, Debug, Eq, Ord, PartialEq, PartialOrd)]
 pub enum Kind {
     ReadU8,
@@ -35,11 +37,12 @@ pub enum Kind {
     OwnedFields,
     OwnedFrame,
     OwnedStream,
+    Card,
     Row,
 }
 
 impl Kind {
-    pub const ALL: [Self; 30] = [
+    pub const ALL: [Self; 31] = [
         Self::ReadU8,
         Self::ReadU16,
         Self::ReadU32,
@@ -69,6 +72,7 @@ impl Kind {
         Self::OwnedFields,
         Self::OwnedFrame,
         Self::OwnedStream,
+        Self::Card,
         Self::Row,
     ];
 
@@ -79,6 +83,8 @@ impl Kind {
             Self::OwnedPacket | Self::OwnedFields | Self::OwnedFrame => 4,
             Self::FramePrefix | Self::FrameExact | Self::Reads | Self::Puts => 2,
             Self::OwnedStream => 2,
+            // It has 256 cases, and the limits take them all.
+            Self::Card => 0,
             _ => 1,
         }
     }
@@ -109,13 +115,14 @@ impl Kind {
             Self::Packet => "Packet::decode (type, room for the text)",
             Self::Item => "an item of a Packet (type, place, short)",
             Self::Find => "a hash among inventory (type, place, other)",
+            Self::Card => "the length card, both ends (type)",
             Self::Rewrite => "Packet::encode_payload (type, room)",
-            Self::Write => "writers by themselves (type, seed, room)",
+            Self::Write => "writers (type, seed, room, rest of a list)",
             Self::OwnedPacket => "owned: Packet, read and written (type)",
             Self::OwnedFields => "owned: Packet of fields (type, seed)",
             Self::OwnedFrame => "owned: Frame of a packet (type, change)",
             Self::OwnedStream => "owned: FrameDecoder::push (chunks)",
-            Self::Row => "rows that do not fit (room)",
+            Self::Row => "rows by themselves (type, place)",
         }
     }
 }
@@ -154,6 +161,20 @@ impl Case {
     /// A number of the case, 0 where it has none.
     pub fn number(&self, i: usize) -> u64 {
         self.numbers.get(i).copied().unwrap_or(0)
+    }
+
+    /// Whether the Rust has no answer of its own: rows, and packets that it parses and the port carries.
+    pub fn alone(&self) -> bool {
+        match self.kind {
+            Kind::Row => true,
+            Kind::Packet | Kind::Item | Kind::Find | Kind::Rewrite => self.carried(),
+            Kind::OwnedPacket | Kind::Card => self.carried(),
+            _ => false,
+        }
+    }
+
+    fn carried(&self) -> bool {
+        CARRIED.contains(&packet_type(self))
     }
 
     /// The place, which the Rust's decoder never moves past the end.
@@ -201,5 +222,22 @@ impl Verdict {
 
     pub const fn differs(&self) -> bool {
         matches!(self, Self::Differs { .. })
+    }
+
+    /// This where it differs, and otherwise what comes next.
+    pub fn and_then(self, next: impl FnOnce() -> Self) -> Self {
+        if self.differs() { self } else { next() }
+    }
+}
+
+/// Both answers where they are not the same.
+impl fmt::Display for Verdict {
+    fn fmt(&self, f: &mut fmt::Formatter<'_>) -> fmt::Result {
+        match self {
+            Self::Differs { port, rust } => {
+                writeln!(f, "  port {port:.600}\n  rust {rust:.600}")
+            }
+            _ => Ok(()),
+        }
     }
 }

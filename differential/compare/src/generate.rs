@@ -2,13 +2,13 @@
 
 use crate::case::{Case, Kind, NETWORKS};
 use crate::rng::Rng;
+use crate::rust::{self, compact_size};
 use crate::stream::{HELD_OVER, SHORT_OUTPUT, SHORT_STORE};
 
-/// Where a compact size, a count or a limit changes its form.
-const EDGES: [u64; 12] = [
+/// Where a number or a compact size changes its form.
+pub const EDGES: [u64; 11] = [
     0,
     1,
-    8,
     252,
     253,
     255,
@@ -18,6 +18,17 @@ const EDGES: [u64; 12] = [
     u32::MAX as u64,
     1 << 32,
     u64::MAX,
+];
+
+/// Counted lists, from type 5 on: the type, an item's width, the bytes after the list, and the limit.
+pub const LISTS: [(u8, usize, usize, u64); 7] = [
+    (5, 88, 0, 1_000),
+    (6, 36, 0, 50_000),
+    (7, 36, 0, 50_000),
+    (8, 36, 0, 50_000),
+    (9, 32, 32, 50_000),
+    (10, 32, 32, 50_000),
+    (11, 236, 0, 2_000),
 ];
 
 /// Payload lengths that a header may say.
@@ -34,11 +45,14 @@ pub fn case(rng: &mut Rng, kind: Kind) -> Case {
         Kind::Reads => reads(rng),
         Kind::Puts => puts(rng),
         Kind::HeaderDecode | Kind::HeaderRead | Kind::HeaderPut => header(rng, kind),
-        Kind::FramePrefix | Kind::FrameExact | Kind::Row => front(rng, kind),
+        Kind::FramePrefix | Kind::FrameExact => front(rng, kind),
+        Kind::Row => row(rng),
+        Kind::Card => Case::new(kind, Vec::new(), &[rng.below(256)]),
         Kind::FrameEncode => written(rng),
         Kind::Stream | Kind::OwnedStream => stream(rng, kind),
         Kind::Write | Kind::OwnedFields => {
-            let numbers = [fields_type(rng), rng.next(), rng.below(5)];
+            let rest = if rng.one_in(2) { rng.below(236) } else { 0 };
+            let numbers = [fields_type(rng), rng.next(), rng.below(5), rest];
             Case::new(kind, Vec::new(), &numbers)
         }
         Kind::Packet | Kind::Item | Kind::Find | Kind::Rewrite => packet(rng, kind),
@@ -244,7 +258,7 @@ fn payload_length(rng: &mut Rng) -> usize {
 
 /// A header that says a length.
 fn said(network: usize, packet_type: u8, length: u32) -> Vec<u8> {
-    let magic = crate::rust::NETWORKS[network].as_u32().to_le_bytes();
+    let magic = rust::NETWORKS[network].as_u32().to_le_bytes();
     [&magic[..], &[packet_type], &length.to_le_bytes()].concat()
 }
 
@@ -283,8 +297,19 @@ fn front(rng: &mut Rng, kind: Kind) -> Case {
         }
         _ => {}
     }
-    let room = rng.below(171);
-    Case::new(kind, bytes, &[room]).on(network)
+    let numbers = [bytes.get(4).copied().unwrap_or(0).into(), rng.below(4)];
+    Case::new(kind, bytes, &numbers).on(network)
+}
+
+/// Bytes for calls of every kind: a frame or a payload, and a type and a place. Longer ones show
+/// nothing more, and each is asked about many times.
+fn row(rng: &mut Rng) -> Case {
+    if rng.one_in(3) {
+        return front(rng, Kind::Row);
+    }
+    let mut case = packet(rng, Kind::Row);
+    case.bytes.truncate(1000);
+    case.on(rng.index(NETWORKS.len()))
 }
 
 fn written(rng: &mut Rng) -> Case {
@@ -369,7 +394,7 @@ fn packet(rng: &mut Rng, kind: Kind) -> Case {
         }
         _ => {}
     }
-    // Room for what is put out; or the place of an item, and whether the hash is another.
+    // Room for what is put out, or the place of an item.
     let second = match kind {
         Kind::Rewrite if rng.one_in(8) => around(rng, bytes.len()),
         Kind::Rewrite => bytes.len() + rng.index(9),
@@ -378,7 +403,13 @@ fn packet(rng: &mut Rng, kind: Kind) -> Case {
         _ if rng.one_in(20) => edge(rng) as usize,
         _ => rng.index(6),
     };
-    let numbers = [u64::from(packet_type), second as u64, rng.below(2)];
+    // Whether the room for all items is one short; or which hash is looked for.
+    let third = match kind {
+        Kind::Find if rng.one_in(2) => rng.below(260 + bytes.len().min(200) as u64),
+        Kind::Find => 0,
+        _ => rng.below(2),
+    };
+    let numbers = [u64::from(packet_type), second as u64, third];
     Case::new(kind, bytes, &numbers)
 }
 
@@ -388,10 +419,7 @@ pub fn payload(rng: &mut Rng, packet_type: u8) -> Vec<u8> {
         0 => version(rng),
         1 | 4 | 12 | 16 | 19 => Vec::new(),
         2 | 3 | 21 => rng.bytes(8),
-        5 => list(rng, 88, 0, 1_000),
-        6..=8 => list(rng, 36, 0, 50_000),
-        9 | 10 => list(rng, 32, 32, 50_000),
-        11 => list(rng, 236, 0, 2_000),
+        5..=11 => list(rng, LISTS[usize::from(packet_type) - 5]),
         15 => reject(rng),
         22 => rng.bytes(9),
         24 => requested(rng),
@@ -439,19 +467,18 @@ fn reject(rng: &mut Rng) -> Vec<u8> {
 }
 
 /// A count, most often as many items, and so many bytes after them.
-fn list(rng: &mut Rng, width: usize, after: usize, limit: u64) -> Vec<u8> {
+fn list(rng: &mut Rng, (_, width, after, limit): (u8, usize, usize, u64)) -> Vec<u8> {
     let count = match rng.below(40) {
         0 => limit + rng.below(3) - 1,
         1 => rng.pick(&[252, 253, 254]),
         2 => edge(rng),
         _ => rng.below(5),
     };
-    let mut encoder = hns_encoding::Encoder::new();
-    encoder.put_compact_size(count);
-    let mut bytes = encoder.into_bytes();
-    if rng.one_in(30) {
-        bytes = compact(rng);
-    }
+    let mut bytes = if rng.one_in(30) {
+        compact(rng)
+    } else {
+        compact_size(count)
+    };
     let items = if count <= limit && (count < 300 || rng.one_in(4)) {
         count as usize * width + after
     } else {
@@ -461,26 +488,29 @@ fn list(rng: &mut Rng, width: usize, after: usize, limit: u64) -> Vec<u8> {
     bytes
 }
 
-/// A hash and differences, whose sums pass 65,535 here and there.
+/// A hash and differences, whose sums pass 65,535 here and there; every other list is calm, so that
+/// long ones read too.
 fn requested(rng: &mut Rng) -> Vec<u8> {
     let mut bytes = rng.bytes(32);
     let count = match rng.below(40) {
         0 => 16_661 + rng.below(3),
         1 => edge(rng),
+        2..=7 => rng.below(70),
         _ => rng.below(6),
     };
-    let mut encoder = hns_encoding::Encoder::new();
-    encoder.put_compact_size(count);
+    bytes.extend_from_slice(&compact_size(count));
+    let calm = rng.one_in(2);
     for _ in 0..count.min(16_663) {
-        let difference = match rng.below(40) {
-            0 => edge(rng),
-            1 => 65_534 + rng.below(3),
-            2 => 250 + rng.below(8),
-            _ => rng.below(3),
+        let difference = match rng.below(120) {
+            _ if calm => compact_size(rng.below(3)),
+            0..=2 => compact_size(edge(rng)),
+            3..=5 => compact_size(65_534 + rng.below(3)),
+            6..=11 => compact_size(250 + rng.below(8)),
+            12..=13 => compact(rng),
+            _ => compact_size(rng.below(3)),
         };
-        encoder.put_compact_size(difference);
+        bytes.extend_from_slice(&difference);
     }
-    bytes.extend_from_slice(&encoder.into_bytes());
     if rng.one_in(20) {
         bytes.truncate(32);
         bytes.extend_from_slice(&compact(rng));

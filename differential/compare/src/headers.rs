@@ -14,17 +14,13 @@ pub fn decode(case: &Case) -> Verdict {
     let port = Header::decode(&case.bytes);
     let rust = Published::decode(&case.bytes).map_err(header_error);
     let fields = Verdict::of(&port, &rust.as_ref().map(ported).map_err(|e| *e));
-    if fields.differs() {
-        return fields;
-    }
-    let again = Verdict::of(
-        &port.map(|h| h.encode().to_vec()),
-        &rust.map(|h| h.encode().to_vec()),
-    );
-    if again.differs() {
-        return again;
-    }
-    hashes_alone(case)
+    let again = || {
+        Verdict::of(
+            &port.map(|h| h.encode().to_vec()),
+            &rust.map(|h| h.encode().to_vec()),
+        )
+    };
+    fields.and_then(again).and_then(|| hashes_alone(case))
 }
 
 /// A refused read leaves the hashes alone, and an accepted one changes no others.

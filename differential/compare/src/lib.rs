@@ -3,7 +3,9 @@
 
 mod buffer;
 pub mod bytes;
+mod card;
 pub mod case;
+mod differences;
 pub mod exhaustive;
 mod frames;
 pub mod generate;
@@ -11,18 +13,38 @@ mod headers;
 pub mod limits;
 mod owned;
 pub mod packets;
+mod payloads;
 mod puts;
 mod reads;
 pub mod rng;
+mod rows;
 pub mod rust;
 pub mod shrink;
 mod stream;
 pub mod writes;
 
+use std::any::Any;
+use std::panic::catch_unwind;
+
 use case::{Case, Kind, Verdict};
 
-/// Asks both sides, and says whether they answer the same.
+/// Asks both sides, and says whether they answer the same. A panic is a mismatch: a place past the
+/// payload's end makes one, or an error that has no number.
 pub fn check(case: &Case) -> Verdict {
+    catch_unwind(|| ask(case)).unwrap_or_else(|panic| Verdict::Differs {
+        port: format!("a panic of either side: {}", message(&*panic)),
+        rust: "the same".to_owned(),
+    })
+}
+
+fn message(panic: &(dyn Any + Send)) -> &str {
+    match panic.downcast_ref::<String>() {
+        Some(text) => text,
+        None => panic.downcast_ref::<&str>().unwrap_or(&""),
+    }
+}
+
+fn ask(case: &Case) -> Verdict {
     match case.kind {
         Kind::CompactSizes => reads::check_sizes(case),
         Kind::Reads => reads::check_sequence(case),
@@ -43,7 +65,8 @@ pub fn check(case: &Case) -> Verdict {
         Kind::OwnedFields => owned::fields(case),
         Kind::OwnedFrame => owned::frame(case),
         Kind::OwnedStream => owned::stream(case),
-        Kind::Row => frames::row(case),
+        Kind::Card => card::check(case),
+        Kind::Row => rows::check(case),
         _ => reads::check(case),
     }
 }

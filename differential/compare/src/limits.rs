@@ -1,8 +1,11 @@
 //! The large limits: payloads of 8,000,000, held counts of 8,000,008, streams of 16,000,018.
 
+use crate::card;
 use crate::case::{Case, Kind, NETWORKS};
-use crate::generate::frame;
+use crate::generate::{LISTS, frame};
+use crate::payloads::ask_all;
 use crate::rng::Rng;
+use crate::rust::compact_size;
 
 const PAYLOAD: usize = 8_000_000;
 const WHOLE: usize = 9 + PAYLOAD;
@@ -19,64 +22,45 @@ pub fn all(rng: &mut Rng, networks: usize, run: &mut impl FnMut(&Case)) {
     }
     lists(rng, run);
     payloads(rng, run);
+    for packet_type in 0..=255 {
+        run(&Case::new(Kind::Card, Vec::new(), &[packet_type]));
+    }
 }
 
 /// Lists at their limit, one item below and one over; items at both ends and past them, and hashes.
 fn lists(rng: &mut Rng, run: &mut impl FnMut(&Case)) {
-    let types = [
-        (5, 88, 0, 1_000),
-        (6, 36, 0, 50_000),
-        (7, 36, 0, 50_000),
-        (8, 36, 0, 50_000),
-    ];
-    let more = [
-        (9, 32, 32, 50_000),
-        (10, 32, 32, 50_000),
-        (11, 236, 0, 2_000),
-    ];
-    for (packet_type, width, after, limit) in types.into_iter().chain(more) {
+    for (packet_type, width, after, limit) in LISTS {
         for count in [limit - 1, limit, limit + 1] {
             let items = rng.bytes(count as usize * width + after);
-            asked(packet_type, [counted(count), items].concat(), count, run);
+            let payload = [compact_size(count), items].concat();
+            asked(packet_type, &payload, count, run);
         }
     }
     for count in [16_661, 16_662, 16_663] {
         let differences = vec![rng.below(3) as u8; count as usize];
-        let hash = rng.bytes(32);
-        asked(24, [hash, counted(count), differences].concat(), count, run);
+        let payload = [rng.bytes(32), compact_size(count), differences].concat();
+        asked(24, &payload, count, run);
+    }
+    // The most differences of three bytes, and one more, which passes 65,535.
+    for long in [193, 194] {
+        asked(24, &card::requested(long), 16_662, run);
     }
 }
 
-fn counted(count: u64) -> Vec<u8> {
-    let mut encoder = hns_encoding::Encoder::new();
-    encoder.put_compact_size(count);
-    encoder.into_bytes()
-}
-
-fn asked(packet_type: u64, bytes: Vec<u8>, count: u64, run: &mut impl FnMut(&Case)) {
+fn asked(packet_type: u8, bytes: &[u8], count: u64, run: &mut impl FnMut(&Case)) {
+    ask_all(packet_type, bytes, run);
+    let mut ask = |kind: Kind, second: u64, third: u64| {
+        let numbers = [packet_type.into(), second, third];
+        run(&Case::new(kind, bytes.to_vec(), &numbers));
+    };
     let length = bytes.len() as u64;
-    for room in [length - 1, length, length + 3] {
-        run(&Case::new(
-            Kind::Rewrite,
-            bytes.clone(),
-            &[packet_type, room],
-        ));
-    }
-    for (kind, second) in [
-        (Kind::Packet, 255),
-        (Kind::OwnedPacket, 0),
-        (Kind::OwnedFrame, 0),
-    ] {
-        run(&Case::new(kind, bytes.clone(), &[packet_type, second]));
-    }
+    ask(Kind::Rewrite, length - 1, 0);
+    ask(Kind::Rewrite, length + 3, 0);
     for place in [0, count - 1, count, u64::MAX] {
-        run(&Case::new(Kind::Item, bytes.clone(), &[packet_type, place]));
-        for other in 0..2 {
-            run(&Case::new(
-                Kind::Find,
-                bytes.clone(),
-                &[packet_type, place, other],
-            ));
+        ask(Kind::Item, place, place % 2);
+        // The hash itself, and one with the first or the last byte changed.
+        for other in [0, 31, 32] {
+            ask(Kind::Find, place, other);
         }
     }
 }
@@ -85,13 +69,8 @@ fn asked(packet_type: u64, bytes: Vec<u8>, count: u64, run: &mut impl FnMut(&Cas
 fn payloads(rng: &mut Rng, run: &mut impl FnMut(&Case)) {
     for length in [PAYLOAD, PAYLOAD + 1] {
         let bytes = rng.bytes(length);
-        for packet_type in [0, 1, 6, 17, 24, 29, 30, 255] {
-            let room = length as u64;
-            let kinds = [(Kind::Rewrite, room), (Kind::Packet, 255), (Kind::Item, 0)];
-            let owned = [(Kind::OwnedPacket, 0), (Kind::OwnedFrame, 0)];
-            for (kind, second) in kinds.into_iter().chain(owned) {
-                run(&Case::new(kind, bytes.clone(), &[packet_type, second]));
-            }
+        for packet_type in [0, 1, 6, 13, 17, 24, 29, 30, 255] {
+            ask_all(packet_type, &bytes, run);
         }
     }
 }

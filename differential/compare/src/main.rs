@@ -64,13 +64,7 @@ fn options() -> Option<Options> {
 fn run_all(options: &Options, run: &mut Run) {
     let mut rng = Rng::new(options.seed);
     run.part("exhaustive");
-    let first = if options.short { 0xfd } else { 0 };
-    exhaustive::compact_sizes(first, &mut |case| run.case(case));
-    exhaustive::frame_headers(&mut |case| run.case(case));
-    let longest = if options.short { 10 } else { 16 };
-    exhaustive::cuts(longest, &mut |case| run.case(case));
-    exhaustive::payloads(options.short, &mut |case| run.case(case));
-    exhaustive::counts(options.short, &mut |case| run.case(case));
+    exhaustive::all(options.short, &mut |case| run.case(case));
     run.part("limits");
     let networks = if options.short { 1 } else { 4 };
     limits::all(&mut rng, networks, &mut |case| run.case(case));
@@ -87,8 +81,9 @@ fn run_all(options: &Options, run: &mut Run) {
 #[derive(Default)]
 struct Run {
     part: &'static str,
-    /// Comparisons by part and kind, and those left out.
+    /// Comparisons by part and kind, those with an answer that the Rust lacks, and those left out.
     same: BTreeMap<(&'static str, Kind), u64>,
+    alone: u64,
     left_out: BTreeMap<Kind, u64>,
     mismatches: BTreeMap<Kind, Case>,
 }
@@ -102,8 +97,13 @@ impl Run {
         if self.mismatches.contains_key(&case.kind) {
             return;
         }
+        let before = rust::refused_alone();
         match check(case) {
-            Verdict::Same(n) => *self.same.entry((self.part, case.kind)).or_default() += n,
+            Verdict::Same(n) => {
+                *self.same.entry((self.part, case.kind)).or_default() += n;
+                let refused = rust::refused_alone() - before;
+                self.alone += if case.alone() { n } else { refused.min(n) };
+            }
             Verdict::LeftOut => *self.left_out.entry(case.kind).or_default() += 1,
             Verdict::Differs { .. } => drop(self.mismatches.insert(case.kind, case.clone())),
         }
@@ -141,10 +141,11 @@ impl Run {
         let kinds = self.mismatches.len();
         println!("{total} comparisons, {kinds} kinds with a mismatch");
         let refused = |number: usize| rust::REFUSED[number].load(Ordering::Relaxed);
-        let rows = self.same.get(&("random", Kind::Row)).unwrap_or(&0);
-        let alone = rows + (16..=19).map(refused).sum::<u64>();
-        println!("{alone} of them of the port alone: rows, and 16 to 19, which the Rust lacks");
-        print!("refusals by number:");
+        println!(
+            "{} of them of the port alone: rows, what is carried, and 16 to 19, which the Rust lacks",
+            self.alone
+        );
+        print!("refusals by number, of which a comparison can have several:");
         for number in (0..20).filter(|number| refused(*number) > 0) {
             print!(" {number}: {}", refused(number));
         }
@@ -154,9 +155,6 @@ impl Run {
 
 fn report(kind: Kind, case: &Case) {
     println!("\nMISMATCH: {}", kind.what());
-    let small = shrink::shrink(case.clone(), |case| check(case).differs());
-    print!("smallest input found:\n{small}");
-    if let Verdict::Differs { port, rust } = check(&small) {
-        println!("  port {port:.600}\n  rust {rust:.600}");
-    }
+    let small = shrink::shrink(case.clone());
+    print!("smallest input found:\n{small}{}", check(&small));
 }

@@ -6,9 +6,10 @@ use hns_p2p_wire::{
 };
 use hns_port::{PacketRow, Refusal};
 
-use crate::buffer::{filled, splice};
+use crate::buffer::{filled, splice, written};
+use crate::card;
 use crate::case::{Case, Verdict};
-use crate::rust;
+use crate::{rows, rust};
 
 /// Types that the port reads as raw bytes, and the Rust as what they carry.
 pub const CARRIED: [u8; 5] = [13, 14, 23, 25, 27];
@@ -16,7 +17,7 @@ pub const CARRIED: [u8; 5] = [13, 14, 23, 25, 27];
 /// What a packet holds: numbers, and bytes that stand in the payload or were put out as text.
 pub type Seen = (Vec<u64>, Vec<Vec<u8>>);
 
-fn packet_type(case: &Case) -> u8 {
+pub fn packet_type(case: &Case) -> u8 {
     case.number(0) as u8
 }
 
@@ -51,30 +52,34 @@ pub fn packet_error(error: WireError) -> Refusal {
     }
 }
 
+/// The Rust's packet. What is carried is raw bytes by document 01, and so as the Rust reads a type
+/// without a name.
 pub fn decode(kind: u8, payload: &[u8]) -> Result<Packet, Refusal> {
-    Packet::decode(PacketType::from_u8(kind), payload).map_err(packet_error)
+    let packet_type = if CARRIED.contains(&kind) {
+        PacketType::Unknown(kind)
+    } else {
+        PacketType::from_u8(kind)
+    };
+    Packet::decode(packet_type, payload).map_err(packet_error)
 }
 
 /// The packet, and the output for its text with the bytes that are left alone.
 pub fn read(case: &Case) -> Verdict {
     let kind = packet_type(case);
-    if CARRIED.contains(&kind) {
-        return Verdict::LeftOut;
-    }
     let mut text = filled(case.number(1) as usize);
     let mut expected = text.clone();
-    let port = hns_port::read_packet(kind, &case.bytes, &mut text)
-        .map(|row| port_seen(kind, &case.bytes, &row));
+    let row = hns_port::read_packet(kind, &case.bytes, &mut text);
+    let port = row.map(|row| port_seen(kind, &case.bytes, &row));
     let rust = decode(kind, &case.bytes).and_then(|packet| {
         let put = rust::fits(words(&packet).into(), expected.len())?;
         splice(&mut expected, 0, &put);
         Ok(rust_seen(&packet))
     });
-    let answers = Verdict::of(&port, &rust);
-    if answers.differs() || text == expected {
-        return answers;
-    }
-    Verdict::of(&text, &expected)
+    let reads = rust.is_ok();
+    Verdict::of(&port, &rust)
+        .and_then(|| Verdict::of(&text, &expected))
+        .and_then(|| rows::rest(&row, |row| rows::of_packet(kind, row)))
+        .and_then(|| card::holds(kind, case.bytes.len(), reads))
 }
 
 /// The text that a packet puts out.
@@ -191,9 +196,7 @@ fn locator_seen(packet: &LocatorPacket) -> Seen {
 }
 
 fn compact_length(count: usize) -> u64 {
-    let mut encoder = hns_encoding::Encoder::new();
-    encoder.put_compact_size(count as u64);
-    encoder.into_bytes().len() as u64
+    rust::compact_size(count as u64).len() as u64
 }
 
 fn address_numbers(address: &NetAddress) -> Vec<u64> {
@@ -238,26 +241,22 @@ pub fn inventory(item: &Inventory) -> Vec<u8> {
 /// The item at a place: its numbers, and the bytes that stand at its places.
 pub fn item(case: &Case) -> Verdict {
     let (kind, place) = (packet_type(case), case.number(1) as usize);
-    if CARRIED.contains(&kind) {
-        return Verdict::LeftOut;
-    }
-    let port =
-        hns_port::item(kind, &case.bytes, place).map(|row| port_item(kind, &case.bytes, &row));
+    let row = hns_port::item(kind, &case.bytes, place);
+    let port = row.map(|row| port_item(kind, &case.bytes, &row));
     let packet = decode(kind, &case.bytes);
     let packet = packet.as_ref().map_err(|refusal| *refusal);
     let rust = packet.and_then(|packet| rust_item(packet, place));
-    let answers = Verdict::of(&port, &rust);
-    if answers.differs() {
-        return answers;
-    }
     let short = case.number(2) == 1;
-    match kind {
+    let all = || match kind {
         24 => all_indexes(&case.bytes, packet.map(indexes), short),
         _ => {
             let items = packet.map(|packet| numbered(kind, packet));
             all_items(kind, &case.bytes, items, short)
         }
-    }
+    };
+    Verdict::of(&port, &rust)
+        .and_then(|| rows::rest(&row, |_| rows::of_item(kind)))
+        .and_then(all)
 }
 
 /// The items that have numbers.
@@ -271,44 +270,41 @@ fn numbered(kind: u8, packet: &Packet) -> Vec<Seen> {
 fn all_items(kind: u8, payload: &[u8], items: Result<Vec<Seen>, Refusal>, short: bool) -> Verdict {
     let (each, width) = if kind == 5 { (6, 33) } else { (2, 32) };
     let needed = items.as_ref().map_or(0, |items| items.len() * each);
+    let room = room(needed, short);
     let call = |out: &mut [u64]| hns_port::item_numbers(kind, payload, out);
-    let (numbers, left_alone) = stored(call, needed, short);
+    let (numbers, left_alone) = stored(call, room);
     let seen = |item: &[u64]| {
         let bytes = payload[item[each - 1] as usize..][..width].to_vec();
         (item[..each - 1].to_vec(), vec![bytes])
     };
     let port = numbers.map(|numbers| numbers.chunks(each).map(seen).collect());
-    let rust = items.and_then(|items| room_for(needed, short).map(|_| items));
+    let rust = items.and_then(|items| rust::enough(needed, room).map(|()| items));
     Verdict::of(&(port, left_alone), &(rust, true))
 }
 
 /// All indexes by one call.
 fn all_indexes(payload: &[u8], indexes: Result<Vec<u64>, Refusal>, short: bool) -> Verdict {
     let needed = indexes.as_ref().map_or(0, Vec::len);
-    let port = stored(|out| hns_port::indexes(payload, out), needed, short);
-    let rust = indexes.and_then(|indexes| room_for(needed, short).map(|_| indexes));
+    let room = room(needed, short);
+    let port = stored(|out| hns_port::indexes(payload, out), room);
+    let rust = indexes.and_then(|indexes| rust::enough(needed, room).map(|()| indexes));
     Verdict::of(&port, &(rust, true))
 }
 
-/// One place more than is needed, or 16 where it is one short.
-fn room_for(needed: usize, short: bool) -> Result<usize, Refusal> {
+/// One place more than is needed, or one short where any is needed.
+const fn room(needed: usize, short: bool) -> usize {
     if short && needed > 0 {
-        return Err(rust::refusal(16, needed as u64, 0));
-    }
-    Ok(needed + 1)
-}
-
-/// The numbers that a call stores into such a room, and whether all others are left alone.
-fn stored(
-    call: impl FnOnce(&mut [u64]) -> Result<usize, Refusal>,
-    needed: usize,
-    short: bool,
-) -> (Result<Vec<u64>, Refusal>, bool) {
-    let room = if short && needed > 0 {
         needed - 1
     } else {
         needed + 1
-    };
+    }
+}
+
+/// The numbers that a call stores into a room, and whether all others are left alone.
+fn stored(
+    call: impl FnOnce(&mut [u64]) -> Result<usize, Refusal>,
+    room: usize,
+) -> (Result<Vec<u64>, Refusal>, bool) {
     let mut out = vec![u64::MAX; room];
     let answer = call(&mut out);
     let rest = out.split_off(answer.map_or(0, |count| count.min(room)));
@@ -362,18 +358,27 @@ pub fn inventories(packet: &Packet) -> &[Inventory] {
     }
 }
 
-/// A hash that an item at a place has, or one beside it: whether it is found, and that it stands there.
+/// The hash of the item at a place; with one bit changed, for each of the 256; or, past these, bytes
+/// of the payload from its first on, which may stand across items.
+fn sought(case: &Case, items: &[Inventory]) -> [u8; 32] {
+    let (place, other) = (case.number(1) as usize, case.number(2) as usize);
+    let from = other.checked_sub(257).and_then(|at| case.bytes.get(at..));
+    if let Some(bytes) = from.and_then(|from| from.first_chunk()) {
+        return *bytes;
+    }
+    let mut hash = items.get(place).map_or([7; 32], |item| item.hash);
+    if other > 0 {
+        hash[other % 32] ^= 1 << (other / 32 % 8);
+    }
+    hash
+}
+
+/// Whether a hash is found, and that it stands there.
 pub fn find(case: &Case) -> Verdict {
     let kind = packet_type(case);
-    if CARRIED.contains(&kind) {
-        return Verdict::LeftOut;
-    }
     let packet = decode(kind, &case.bytes);
     let items = packet.as_ref().map_or(&[][..], inventories);
-    let mut hash = items
-        .get(case.number(1) as usize)
-        .map_or([7; 32], |item| item.hash);
-    hash[31] ^= (case.number(2) % 2) as u8;
+    let hash = sought(case, items);
     let port = hns_port::find(kind, &case.bytes, &hash);
     let rust = packet.as_ref().map_err(|refusal| *refusal);
     let rust = rust.map(|_| items.iter().any(|item| item.hash == hash).then_some(true));
@@ -386,21 +391,9 @@ pub fn find(case: &Case) -> Verdict {
 /// Read, and written again by the type's writer.
 pub fn rewrite(case: &Case) -> Verdict {
     let (kind, room) = (packet_type(case), case.number(1) as usize);
-    if CARRIED.contains(&kind) {
-        return Verdict::LeftOut;
-    }
     let mut out = filled(room);
-    let mut expected = out.clone();
     let port = hns_port::rewrite(kind, &case.bytes, &mut out);
-    let rust = again(kind, &case.bytes, room).map(|bytes| {
-        splice(&mut expected, 0, &bytes);
-        bytes.len()
-    });
-    let answers = Verdict::of(&port, &rust);
-    if answers.differs() || out == expected {
-        return answers;
-    }
-    Verdict::of(&out, &expected)
+    written(&port, &out, again(kind, &case.bytes, room))
 }
 
 /// What a payload is written as again, where there is room for it.

@@ -1,5 +1,7 @@
 //! Reads at a place, and reads one after another.
 
+use std::borrow::Cow;
+
 use hns_encoding::DecodeError;
 use hns_port::Refusal;
 
@@ -9,12 +11,43 @@ use crate::rust::decode_error;
 /// What a read gives, and the place after it.
 #[derive(Debug, PartialEq)]
 enum Value<'input> {
-    Number(u64, usize),
-    Bytes(std::borrow::Cow<'input, [u8]>, usize),
+    Number(u64),
+    Bytes(Cow<'input, [u8]>),
     Done,
 }
 
-type Answer<'input> = Result<Value<'input>, Refusal>;
+type Answer<'input, Error> = Result<(Value<'input>, usize), Error>;
+
+/// A read of one side. The Rust has another name for bounded bytes, and takes a text beside a limit.
+macro_rules! read {
+    ($name:ident, $side:ident, $error:ty, $bounded:ident $(, $text:literal)?) => {
+        fn $name<'input>(
+            kind: Kind,
+            from: &mut $side::Decoder<'input>,
+            a: usize,
+            b: usize,
+        ) -> Answer<'input, $error> {
+            let value = match kind {
+                Kind::ReadU8 => Value::Number(from.read_u8()?.into()),
+                Kind::ReadU16 => Value::Number(from.read_u16_le()?.into()),
+                Kind::ReadU32 => Value::Number(from.read_u32_le()?.into()),
+                Kind::ReadU64 => Value::Number(from.read_u64_le()?),
+                Kind::CompactSize => Value::Number(from.read_compact_size()?),
+                Kind::CompactUsize => {
+                    Value::Number(from.read_compact_usize(a $(, $text)?)? as u64)
+                }
+                Kind::Slice => Value::Bytes(from.read_slice(a)?.into()),
+                Kind::Bounded => Value::Bytes(from.$bounded(a, b)?.into()),
+                Kind::Varbytes => Value::Bytes(from.read_varbytes(a $(, $text)?)?.into()),
+                _ => from.finish().map(|()| Value::Done)?,
+            };
+            Ok((value, from.position()))
+        }
+    };
+}
+
+read!(port_read, hns_port, Refusal, read_bounded);
+read!(rust_read, hns_encoding, DecodeError, read_bounded_vec, "");
 
 pub fn check(case: &Case) -> Verdict {
     if passes_2_64(case) {
@@ -24,7 +57,7 @@ pub fn check(case: &Case) -> Verdict {
     let (a, b) = (case.number(1) as usize, case.number(2) as usize);
     Verdict::of(
         &port_read(case.kind, &mut port, a, b),
-        &rust_read(case.kind, &mut rust, a, b),
+        &rust_read(case.kind, &mut rust, a, b).map_err(decode_error),
     )
 }
 
@@ -52,61 +85,6 @@ fn passes_2_64(case: &Case) -> bool {
         }
         _ => false,
     }
-}
-
-fn port_read<'input>(
-    kind: Kind,
-    from: &mut hns_port::Decoder<'input>,
-    a: usize,
-    b: usize,
-) -> Answer<'input> {
-    let number = |value: u64, from: &hns_port::Decoder| Value::Number(value, from.position());
-    let bytes =
-        |value: &'input [u8], from: &hns_port::Decoder| Value::Bytes(value.into(), from.position());
-    Ok(match kind {
-        Kind::ReadU8 => number(from.read_u8()?.into(), from),
-        Kind::ReadU16 => number(from.read_u16_le()?.into(), from),
-        Kind::ReadU32 => number(from.read_u32_le()?.into(), from),
-        Kind::ReadU64 => number(from.read_u64_le()?, from),
-        Kind::CompactSize => number(from.read_compact_size()?, from),
-        Kind::CompactUsize => number(from.read_compact_usize(a)? as u64, from),
-        Kind::Slice => bytes(from.read_slice(a)?, from),
-        Kind::Bounded => bytes(from.read_bounded(a, b)?, from),
-        Kind::Varbytes => bytes(from.read_varbytes(a)?, from),
-        _ => from.finish().map(|()| Value::Done)?,
-    })
-}
-
-fn rust_read<'input>(
-    kind: Kind,
-    from: &mut hns_encoding::Decoder<'input>,
-    a: usize,
-    b: usize,
-) -> Answer<'input> {
-    read_published(kind, from, a, b).map_err(decode_error)
-}
-
-fn read_published<'input>(
-    kind: Kind,
-    from: &mut hns_encoding::Decoder<'input>,
-    a: usize,
-    b: usize,
-) -> Result<Value<'input>, DecodeError> {
-    let number = |value: u64, from: &hns_encoding::Decoder| Value::Number(value, from.position());
-    let bytes =
-        |value: Vec<u8>, from: &hns_encoding::Decoder| Value::Bytes(value.into(), from.position());
-    Ok(match kind {
-        Kind::ReadU8 => number(from.read_u8()?.into(), from),
-        Kind::ReadU16 => number(from.read_u16_le()?.into(), from),
-        Kind::ReadU32 => number(from.read_u32_le()?.into(), from),
-        Kind::ReadU64 => number(from.read_u64_le()?, from),
-        Kind::CompactSize => number(from.read_compact_size()?, from),
-        Kind::CompactUsize => number(from.read_compact_usize(a, "")? as u64, from),
-        Kind::Slice => Value::Bytes(from.read_slice(a)?.into(), from.position()),
-        Kind::Bounded => bytes(from.read_bounded_vec(a, b)?, from),
-        Kind::Varbytes => bytes(from.read_varbytes(a, "")?, from),
-        _ => from.finish().map(|()| Value::Done)?,
-    })
 }
 
 /// A list in one call is the Rust's reads one after another up to the first that is refused.
@@ -141,7 +119,7 @@ pub fn check_sequence(case: &Case) -> Verdict {
             (number >> 24) as u16 as usize,
         );
         let ported = port_read(kind, &mut port, a, b);
-        let published = rust_read(kind, &mut rust, a, b);
+        let published = rust_read(kind, &mut rust, a, b).map_err(decode_error);
         let verdict = Verdict::of(&ported, &published);
         if verdict.differs() {
             return verdict;

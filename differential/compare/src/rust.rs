@@ -22,12 +22,29 @@ pub fn refusal(number: u64, a: u64, b: u64) -> Refusal {
     Refusal { number, a, b, c: 0 }
 }
 
+/// How often a refusal that the Rust lacks was the answer.
+pub fn refused_alone() -> u64 {
+    let counts = REFUSED[16..].iter();
+    counts.map(|count| count.load(Ordering::Relaxed)).sum()
+}
+
 /// The Rust grows a vector; an output that is too short is the port's own refusal, 16.
-pub fn fits(bytes: Vec<u8>, room: usize) -> Result<Vec<u8>, Refusal> {
-    if bytes.len() <= room {
-        return Ok(bytes);
+pub fn enough(needed: usize, room: usize) -> Result<(), Refusal> {
+    if needed <= room {
+        return Ok(());
     }
-    Err(refusal(16, bytes.len() as u64, 0))
+    Err(refusal(16, needed as u64, 0))
+}
+
+pub fn fits(bytes: Vec<u8>, room: usize) -> Result<Vec<u8>, Refusal> {
+    enough(bytes.len(), room).map(|()| bytes)
+}
+
+/// A compact size in its shortest form.
+pub fn compact_size(value: u64) -> Vec<u8> {
+    let mut encoder = hns_encoding::Encoder::new();
+    encoder.put_compact_size(value);
+    encoder.into_bytes()
 }
 
 pub fn decode_error(error: DecodeError) -> Refusal {

@@ -1,18 +1,32 @@
 //! The smallest input found that still tells the sides apart.
 
+use std::panic::{set_hook, take_hook};
 use std::time::{Duration, Instant};
 
 use crate::case::Case;
+use crate::check;
 
 /// A case of millions of bytes has more candidates than are worth trying.
 const LONGEST: Duration = Duration::from_secs(10);
 
+/// The smallest found. Of the panics on the way none is worth its message: a check of what was found
+/// says it again.
+pub fn shrink(case: Case) -> Case {
+    let hook = take_hook();
+    set_hook(Box::new(|_| ()));
+    let smallest = smallest(case);
+    set_hook(hook);
+    smallest
+}
+
 /// Tries, in each round: fewer bytes, a nearer place, fewer numbers, bytes of 0, smaller numbers.
-pub fn shrink(mut case: Case, differs: impl Fn(&Case) -> bool) -> Case {
+fn smallest(mut case: Case) -> Case {
     let begun = Instant::now();
     loop {
         let in_time = |_: &Case| begun.elapsed() < LONGEST;
-        let smaller = candidates(&case).take_while(in_time).find(&differs);
+        let smaller = candidates(&case)
+            .take_while(in_time)
+            .find(|case| check(case).differs());
         let Some(smaller) = smaller else {
             return case;
         };

@@ -99,20 +99,14 @@ impl Streams {
     /// Store and output after a push whose frames' encodings these are.
     fn buffers(&mut self, total: usize, delivered: &[u8]) -> Verdict {
         let near = self.near(total);
-        if self.store[..near] != self.model[..near] {
-            return Verdict::of(&&self.store[..near], &&self.model[..near]);
-        }
+        let store = Verdict::of(&&self.store[..near], &&self.model[..near]);
         let n = delivered.len();
-        if self.output[..n] != *delivered {
-            return Verdict::of(&&self.output[..n], &delivered);
-        }
+        let front = store.and_then(|| Verdict::of(&&self.output[..n], &delivered));
         fill(&mut self.output[..n], 0);
         let near = self.near(n);
-        let untouched = filled(near);
-        if self.output[..near] != untouched {
-            return Verdict::of(&&self.output[..near], &&untouched[..]);
-        }
-        self.held_bytes()
+        front
+            .and_then(|| Verdict::of(&&self.output[..near], &&filled(near)[..]))
+            .and_then(|| self.held_bytes())
     }
 
     fn near(&self, touched: usize) -> usize {
@@ -153,21 +147,11 @@ impl Streams {
         let pushed = hns_port::push(NETWORKS[self.network], store, self.held, chunk, output);
         let answer = Err(rust::refusal(number, least as u64, 0));
         let held = self.held;
-        let verdict = Verdict::of(&pushed, &Pushed { answer, held });
-        if verdict.differs() {
-            return verdict;
-        }
-        self.buffers(total, &[])
+        Verdict::of(&pushed, &Pushed { answer, held }).and_then(|| self.buffers(total, &[]))
     }
 
     fn whole(&self) -> Verdict {
-        if self.store != self.model {
-            return Verdict::of(&self.store, &self.model);
-        }
-        let untouched = filled(self.output.len());
-        if self.output != untouched {
-            return Verdict::of(&self.output, &untouched);
-        }
-        Verdict::Same(1)
+        Verdict::of(&self.store, &self.model)
+            .and_then(|| Verdict::of(&self.output, &filled(self.output.len())))
     }
 }

@@ -8,10 +8,9 @@ mod mutate;
 mod seeds;
 
 use std::ffi::{c_char, c_int};
-use std::panic::{catch_unwind, set_hook, take_hook};
 use std::process::{abort, exit};
 
-use compare::case::{Case, Verdict};
+use compare::case::Case;
 use compare::{check, shrink};
 
 /// # Safety
@@ -41,26 +40,12 @@ pub extern "C" fn LLVMFuzzerInitialize(_: *mut c_int, _: *mut *mut *mut c_char) 
 }
 
 fn ask(case: &Case) {
-    let Some(answers) = differs(case) else {
+    let answers = check(case);
+    if !answers.differs() {
         return;
-    };
-    eprint!("\nMISMATCH\n{case}{answers}");
-    // Of the panics on the way to a smaller input only the last is worth its message.
-    set_hook(Box::new(|_| ()));
-    let small = shrink::shrink(case.clone(), |case| differs(case).is_some());
-    drop(take_hook());
-    let answers = differs(&small).unwrap_or_default();
-    eprint!("smallest input found:\n{small}{answers}");
-    abort();
-}
-
-/// Both answers where they are not the same, or that there was a panic.
-fn differs(case: &Case) -> Option<String> {
-    match catch_unwind(|| check(case)) {
-        Ok(Verdict::Differs { port, rust }) => {
-            Some(format!("  port {port:.600}\n  rust {rust:.600}\n"))
-        }
-        Ok(_) => None,
-        Err(_) => Some("  a panic, as said above\n".to_string()),
     }
+    eprint!("\nMISMATCH\n{case}{answers}");
+    let small = shrink::shrink(case.clone());
+    eprint!("smallest input found:\n{small}{}", check(&small));
+    abort();
 }

@@ -49,10 +49,7 @@ fn thinned(seeds: &mut Vec<Vec<u8>>) {
             seeds.extend(seed(case));
         }
     };
-    exhaustive::compact_sizes(0xfd, &mut one_in_many);
-    exhaustive::frame_headers(&mut one_in_many);
-    exhaustive::cuts(10, &mut one_in_many);
-    exhaustive::payloads(true, &mut one_in_many);
+    exhaustive::all(true, &mut one_in_many);
 }
 
 /// The input that a case is made from, where that is short enough.

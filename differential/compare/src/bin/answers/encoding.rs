@@ -1,24 +1,10 @@
 //! Reads and puts.
 
+use compare::generate::EDGES;
 use compare::rust;
 use hns_encoding::{DecodeError, Decoder, Encoder};
 
 use crate::list::{List, hex, row, spliced};
-
-/// Where a number or a compact size changes its form.
-const EDGES: [u64; 11] = [
-    0,
-    1,
-    252,
-    253,
-    255,
-    256,
-    65_535,
-    65_536,
-    0xffff_ffff,
-    0x1_0000_0000,
-    u64::MAX,
-];
 
 impl List {
     pub fn encoding(&mut self) {

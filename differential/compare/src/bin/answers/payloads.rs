@@ -1,21 +1,12 @@
 //! Payloads by type: good ones, ones to cut at their fields, bad ones, and lists at their limits.
 
-use hns_encoding::Encoder;
+use compare::generate::LISTS;
+use compare::rust::compact_size;
 
 /// Fields one after another.
 type Fields = Vec<Vec<u8>>;
 type Payload = (u8, Vec<u8>);
 
-/// Counted lists: the type, an item's width, the bytes after the list, and the limit.
-const LISTS: [(u8, usize, usize, u64); 7] = [
-    (5, 88, 0, 1_000),
-    (6, 36, 0, 50_000),
-    (7, 36, 0, 50_000),
-    (8, 36, 0, 50_000),
-    (9, 32, 32, 50_000),
-    (10, 32, 32, 50_000),
-    (11, 236, 0, 2_000),
-];
 const EMPTY: [u8; 5] = [1, 4, 12, 16, 19];
 const RAW: [u8; 8] = [17, 18, 20, 28, 29, 30, 31, 255];
 /// Rejected types that come with a hash, and some that come without.
@@ -26,12 +17,6 @@ const INDEX_LIMIT: u64 = 16_662;
 /// Bytes that differ from each other and from those of another seed.
 pub fn bytes(n: usize, seed: usize) -> Vec<u8> {
     (0..n).map(|i| (i * 11 + seed * 41 + 5) as u8).collect()
-}
-
-pub fn compact(value: u64) -> Vec<u8> {
-    let mut encoder = Encoder::new();
-    encoder.put_compact_size(value);
-    encoder.into_bytes()
 }
 
 fn address(host_kind: u8, seed: usize) -> Fields {
@@ -53,7 +38,7 @@ fn version(host_kind: u8, agent: &[u8], no_relay: u8) -> Fields {
 }
 
 fn addresses(host_kinds: &[u8]) -> Fields {
-    let mut fields = vec![compact(host_kinds.len() as u64)];
+    let mut fields = vec![compact_size(host_kinds.len() as u64)];
     for (i, host_kind) in host_kinds.iter().enumerate() {
         fields.extend(address(*host_kind, i));
     }
@@ -62,7 +47,7 @@ fn addresses(host_kinds: &[u8]) -> Fields {
 
 /// So many items, of which the last is the first again where there are three, and what follows.
 fn list(widths: &[usize], count: usize, after: usize) -> Fields {
-    let mut fields = vec![compact(count as u64)];
+    let mut fields = vec![compact_size(count as u64)];
     for i in 0..count {
         fields.extend(widths.iter().map(|width| bytes(*width, i % 2 + width)));
     }
@@ -86,8 +71,12 @@ fn reject(message: u8, reason: &[u8], hash: usize) -> Fields {
 }
 
 fn requested(differences: &[u64]) -> Fields {
-    let mut fields = vec![bytes(32, 4), compact(differences.len() as u64)];
-    fields.extend(differences.iter().map(|difference| compact(*difference)));
+    let mut fields = vec![bytes(32, 4), compact_size(differences.len() as u64)];
+    fields.extend(
+        differences
+            .iter()
+            .map(|difference| compact_size(*difference)),
+    );
     fields
 }
 
@@ -201,7 +190,7 @@ pub fn bad() -> Vec<Payload> {
             .map(|list| (24, requested(&list).concat())),
     );
     for (count, wide) in [(1, &[0xfd, 0xfc, 0][..]), (2, &[0, 0xfe, 0xff, 0xff, 0, 0])] {
-        let wide = [&bytes(32, 4), &compact(count), wide].concat();
+        let wide = [&bytes(32, 4), &compact_size(count), wide].concat();
         bad.push((24, wide));
     }
     bad.extend(
@@ -214,7 +203,9 @@ pub fn bad() -> Vec<Payload> {
 
 /// Over the limit, not shortest in each form, and cut, each with nothing after it.
 fn bad_counts(limit: u64) -> Vec<Vec<u8>> {
-    let mut counts: Vec<_> = [limit, limit + 1, 65_536, u64::MAX].map(compact).to_vec();
+    let mut counts: Vec<_> = [limit, limit + 1, 65_536, u64::MAX]
+        .map(compact_size)
+        .to_vec();
     for (marker, least, width) in [(0xfd, 253_u64, 2), (0xfe, 1 << 16, 4), (0xff, 1 << 32, 8)] {
         for value in [0, least - 1] {
             counts.push([&[marker], &value.to_le_bytes()[..width]].concat());
@@ -269,13 +260,13 @@ pub fn limits() -> Vec<(u8, Vec<u8>, usize)> {
         for count in [limit, limit + 1] {
             let between = vec![0; (count as usize - 2) * width];
             let last = bytes(width + after, 2);
-            let list = [compact(count), bytes(width, 1), between, last].concat();
+            let list = [compact_size(count), bytes(width, 1), between, last].concat();
             lists.push((packet_type, list, count as usize));
         }
     }
     for count in [INDEX_LIMIT, INDEX_LIMIT + 1] {
         let differences = vec![0; count as usize];
-        let list = [bytes(32, 4), compact(count), differences].concat();
+        let list = [bytes(32, 4), compact_size(count), differences].concat();
         lists.push((24, list, count as usize));
     }
     lists

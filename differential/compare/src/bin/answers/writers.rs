@@ -2,7 +2,7 @@
 //! and last the text, list or bytes; indexes are compact sizes.
 
 use compare::packets::inventory;
-use compare::rust;
+use compare::rust::{self, compact_size};
 use compare::writes::{flat, refused};
 use hns_header_consensus::Header;
 use hns_p2p_wire::{
@@ -13,7 +13,7 @@ use hns_primitives::{BlockHash, NameHash, TreeRoot};
 
 use crate::list::List;
 use crate::packets::{rooms, written};
-use crate::payloads::{WITH_HASH, WITHOUT_HASH, bytes, compact};
+use crate::payloads::{WITH_HASH, WITHOUT_HASH, bytes};
 
 const WRITE: u8 = 29;
 /// The room of what is refused, and of what is too long to be shown: no packet here fits but those of
@@ -63,44 +63,33 @@ fn arguments(packet: &Packet) -> Vec<u8> {
             items.iter().flat_map(inventory).collect()
         }
         Packet::GetBlocks(packet) | Packet::GetHeaders(packet) => {
-            let hashes = packet.locator.iter().flat_map(|hash| *hash.as_bytes());
-            packet
-                .stop
-                .as_bytes()
-                .iter()
-                .copied()
-                .chain(hashes)
-                .collect()
+            let hashes = packet.locator.iter().map(|hash| hash.as_bytes().to_vec());
+            after(packet.stop.as_bytes(), hashes)
         }
         Packet::Headers(headers) => headers.iter().flat_map(Header::encode).collect(),
-        Packet::Reject(reject) => {
-            let front = [
-                reject.message.as_u8(),
-                reject.code,
-                reject.hash.is_some().into(),
-            ];
-            let hash = reject.hash.unwrap_or([0xee; 32]);
-            [&front, &hash[..], reject.reason.as_bytes()].concat()
-        }
+        Packet::Reject(reject) => reject_arguments(reject),
         Packet::FeeFilter(rate) => rate.to_le_bytes().to_vec(),
         Packet::SendCmpct { mode, version } => [&[*mode], &version.to_le_bytes()[..]].concat(),
         Packet::GetBlockTxn(request) => {
-            let indexes = request
-                .indexes
-                .iter()
-                .flat_map(|index| compact(*index as u64));
-            request
-                .block_hash
-                .as_bytes()
-                .iter()
-                .copied()
-                .chain(indexes)
-                .collect()
+            let indexes = request.indexes.iter().map(|index| *index as u64);
+            after(request.block_hash.as_bytes(), indexes.map(compact_size))
         }
         Packet::GetProof(packet) => [*packet.root.as_bytes(), *packet.key.as_bytes()].concat(),
         // raw bytes, and none of the empty ones
         other => other.encode_payload().unwrap_or_else(|_| too_long()),
     }
+}
+
+/// What follows a hash.
+fn after(hash: &[u8; 32], parts: impl Iterator<Item = Vec<u8>>) -> Vec<u8> {
+    hash.iter().copied().chain(parts.flatten()).collect()
+}
+
+fn reject_arguments(reject: &RejectPacket) -> Vec<u8> {
+    let present = reject.hash.is_some().into();
+    let front = [reject.message.as_u8(), reject.code, present];
+    let hash = reject.hash.unwrap_or([0xee; 32]);
+    [&front, &hash[..], reject.reason.as_bytes()].concat()
 }
 
 fn version_arguments(version: &VersionPacket) -> Vec<u8> {
