@@ -337,7 +337,7 @@ fn writer<'a>(packet: &'a Packet, payload: &'a [u8]) -> Writer<'a> {
         }),
         Packet::Ping(nonce) => Box::new(|out| port::write_nonce(u64::from_le_bytes(*nonce), out)),
         Packet::Addr(items) => {
-            let flat: Vec<u8> = items.iter().flat_map(flat_address).collect();
+            let flat: Vec<u8> = items.iter().flat_map(|item| fields(item).flat()).collect();
             Box::new(move |out| port::write_addr(&flat, out))
         }
         Packet::Inv(items) => {
@@ -377,17 +377,6 @@ fn fields(address: &NetAddress) -> port::AddressFields {
         port: address.port,
         key: address.key,
     }
-}
-
-fn flat_address(address: &NetAddress) -> Vec<u8> {
-    [
-        &address.time.to_le_bytes()[..],
-        &address.services.to_le_bytes(),
-        &address.ip,
-        &address.port.to_le_bytes(),
-        &address.key,
-    ]
-    .concat()
 }
 
 /// The hash of the last item and one that no item has, beside a search of the Rust's vector, which

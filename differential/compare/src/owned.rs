@@ -7,7 +7,7 @@ use hns_p2p_wire::{
 
 use crate::case::{Case, NETWORKS, Verdict};
 use crate::headers::ported;
-use crate::packets::{CARRIED, packet_error};
+use crate::packets::{CARRIED, decode, packet_error, packet_type};
 use crate::rng::Rng;
 use crate::rust;
 use crate::stream::LENGTH;
@@ -145,12 +145,9 @@ fn all(verdicts: impl IntoIterator<Item = Verdict>) -> Verdict {
 
 /// A payload as a packet with its fields, and the packet's payload.
 pub fn packet(case: &Case) -> Verdict {
-    let number = case.number(0) as u8;
-    if CARRIED.contains(&number) {
-        return Verdict::LeftOut;
-    }
+    let number = packet_type(case);
     let port = port::read(number, &case.bytes);
-    let rust = wire::read(number, &case.bytes).map_err(packet_error);
+    let rust = decode(number, &case.bytes);
     let answers = Verdict::of(&port, &rust.as_ref().map(owned).map_err(|refusal| *refusal));
     match &rust {
         Ok(rust) if !answers.differs() => all([encoded(rust), addresses(rust)]),
@@ -320,10 +317,20 @@ const fn sendcmpct(mode: u8, version: u64) -> hns_port::Packet {
     hns_port::Packet::SendCmpct { mode, version }
 }
 
+/// What is carried has a name in the port, and reads as raw bytes.
 fn unknown(packet_type: u8, payload: &[u8]) -> hns_port::Packet {
-    hns_port::Packet::Unknown {
-        packet_type,
-        payload: payload.to_vec(),
+    use hns_port::Packet as To;
+    let payload = payload.to_vec();
+    match packet_type {
+        13 => To::Block(payload),
+        14 => To::Tx(payload),
+        23 => To::CmpctBlock(payload),
+        25 => To::BlockTxn(payload),
+        27 => To::Proof(payload),
+        _ => To::Unknown {
+            packet_type,
+            payload,
+        },
     }
 }
 

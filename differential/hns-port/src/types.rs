@@ -226,8 +226,8 @@ impl NetAddress {
         Ok(items.into_iter().map(address).collect())
     }
 
-    /// The fields side by side, as the writer of an addr takes them.
-    pub(crate) fn flat(&self) -> [u8; 67] {
+    /// The fields side by side, as [`write_addr`] takes them.
+    pub fn flat(&self) -> [u8; 67] {
         let mut flat = [0; 67];
         flat[..8].copy_from_slice(&self.time.to_le_bytes());
         flat[8..16].copy_from_slice(&self.services.to_le_bytes());
