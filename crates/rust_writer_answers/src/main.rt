@@ -6,10 +6,6 @@
 // zeros the bytes leave out: after how many bytes they stand, and how many there are. So a short line has megabytes.
 //
 // An answer is the kind, 0 and the length written, or the refusal's number and values; then the output.
-use hns_encoder::Encoder;
-
-const FRONT: usize = 26;
-
 // Bytes of a line.
 const ROOM: usize = 4_096;
 
@@ -138,7 +134,7 @@ fn ask_lent(kind: u8, packet_type: u8, bytes: &[u8], out: &mut [u8]) {
     let mut row = [0u64; 16];
     call(kind, packet_type, bytes, out, &mut row);
     case_lines::count(row);
-    case_lines::hex(out);
+    case_lines::hex_or_none(out);
 }
 
 fn ask(kind: u8, packet_type: u8, room: usize, bytes: &[u8]) {
@@ -148,102 +144,31 @@ fn ask(kind: u8, packet_type: u8, room: usize, bytes: &[u8]) {
     }
 }
 
-fn clear(bytes: &mut [u8], from: usize, to: usize) {
-    let mut i = from;
-    while i < to {
-        if bytes.len() <= i {
-            return;
-        }
-        bytes[i] = 0;
-        i += 1;
-    }
-}
-
-// Puts the bytes that a line gives where they stand around the zeros, and answers the place after them.
-fn put_given(case: &[u8], before: usize, end: usize, long: &mut [u8]) -> usize {
-    let given = after(case, FRONT);
-    Encoder::new().put_bytes(long, hns_encoding::first(given, before));
-    let e = Encoder { position: end }.put_bytes(long, after(given, before));
-    e.position
-}
-
-fn ask_case(case: &[u8], bytes: &[u8]) {
-    let kind = hns_encoding::u8_at(case, 0);
-    let packet_type = hns_encoding::u8_at(case, 1);
-    let n = hns_encoding::u64_at(case, 2) as usize;
-    io::print_decimal(1, kind as u64);
-    ask(kind, packet_type, n, bytes);
-    case_lines::text(b"\n");
-}
-
-// `long` is zeros: the bytes given are put there for the question, and cleared again, so that no case has to write
-// megabytes.
-fn ask_long(case: &[u8], before: usize, end: usize, long: &mut [u8]) {
-    let size = put_given(case, before, end, long);
-    ask_case(case, hns_encoding::first(long, size));
-    clear(long, 0, before);
-    clear(long, end, size);
-}
-
 fn answer(case: &[u8], long: &mut [u8]) {
-    let before = hns_encoding::u64_at(case, 10) as usize;
-    let zeros = hns_encoding::u64_at(case, 18) as usize;
-    if LONG_ROOM < before {
-        return;
-    }
-    if LONG_ROOM < zeros {
-        return;
-    }
-    ask_long(case, before, before + zeros, long);
+    let q = case_input::question(case);
+    let put = case_input::put_question(case, long);
+    io::print_decimal(1, q.kind as u64);
+    ask(
+        q.kind,
+        q.about,
+        q.a as usize,
+        hns_encoding::first(long, put.size),
+    );
+    case_input::clear_long(put, long);
 }
 
-// A hexadecimal digit after the ones before it: two make a byte.
-fn take_digit(case: &mut [u8], n: usize, digit: u8) {
-    let value = (digit % 16 + digit / 58 * 9) % 16;
-    let i = n / 2;
-    if i < case.len() {
-        case[i] = case[i] % 16 * 16 + value;
-    }
-}
-
-// Takes a byte of a line after n digits, and answers how many there are then: no line has more than there is room for.
-fn take(case: &mut [u8], n: usize, byte: u8, long: &mut [u8]) -> usize {
-    if byte == 10 {
-        answer(hns_encoding::first(case, n / 2), long);
-        return 0;
-    }
-    take_digit(case, n, byte);
-    if n < ROOM * 2 { n + 1 } else { n }
-}
-
-// The lines of a part of the input: n digits of a line came before it, and how many stand after it.
-fn answers(lines: &[u8], case: &mut [u8], n: usize, long: &mut [u8]) -> usize {
-    let mut digits = n;
-    let mut i: usize = 0;
-    while i < lines.len() {
-        digits = take(case, digits, lines[i], long);
-        i += 1;
-    }
-    digits
-}
-
-// At most 100 parts of the input, which is far more than the file has.
-fn run(lines: &mut [u8], case: &mut [u8], long: &mut [u8]) {
-    let mut digits: usize = 0;
-    let mut parts: usize = 100;
-    while 0 < parts {
-        let size = io::read_full(0, lines);
-        if size == 0 {
-            return;
-        }
-        digits = answers(hns_encoding::first(lines, size), case, digits, long);
-        parts -= 1;
+fn run(buffer: &mut [u8], case: &mut [u8], long: &mut [u8]) {
+    let mut lines = case_input::first_case(buffer, case);
+    while 0 < lines.left {
+        answer(hns_encoding::first(case, lines.size), long);
+        case_lines::end_line();
+        lines = case_input::next_case(lines, buffer, case);
     }
 }
 
 fn main() {
-    let mut lines = io::large_buffer();
+    let mut buffer = io::large_buffer();
     let mut case = [0u8; ROOM];
     let mut long = [0u8; LONG_ROOM];
-    run(&mut lines, &mut case, &mut long);
+    run(&mut buffer, &mut case, &mut long);
 }

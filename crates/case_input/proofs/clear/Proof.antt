@@ -2,8 +2,8 @@ use Prim.Native.Nat.{_-_}
 use mathlib.Core.Path.{_≡_}
 use lib.ListN.{length}
 use borrow.Author.Needs.{needs}
-use Rattle.packet_cases.proofs.clear.Statement.{statement}
-use Rattle.packet_cases.proofs.clear.Tie as tie
+use Rattle.case_input.proofs.clear.Statement.{statement}
+use Rattle.case_input.proofs.clear.Tie as tie
 
 abbrev Inv-loop : tie.InvT-loop
 Inv-loop bytes₀ from to i₀ bytes i = length bytes ≡ length bytes₀
