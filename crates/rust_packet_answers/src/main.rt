@@ -8,6 +8,7 @@
 // An answer is the kind, and 0 with what was answered, or the refusal's number and values; then the lent output. For a
 // place it has the bytes that stand there: the Rust has no places.
 use hns_encoder::Encoder;
+use hns_p2p_fields::from_place;
 
 // Bytes of a line.
 const ROOM: usize = 4_096;
@@ -18,13 +19,9 @@ const LONG_ROOM: usize = 8_000_033;
 // Bytes of a lent output.
 const OUT_ROOM: usize = 1_024;
 
-fn after(bytes: &[u8], n: usize) -> &[u8] {
-    hns_p2p_fields::from_place(bytes, n)
-}
-
 // So many bytes at a place.
 fn there(bytes: &[u8], at: u64, n: u64) -> &[u8] {
-    hns_encoding::first(after(bytes, at as usize), n as usize)
+    hns_encoding::first(from_place(bytes, at as usize), n as usize)
 }
 
 fn mask(bytes: &mut [u8]) {
@@ -58,12 +55,12 @@ fn version(payload: &[u8], row: [u64; 16]) {
 
 fn listed(payload: &[u8], row: [u64; 16]) {
     case_lines::number(row[1]);
-    case_lines::hex_or_none(after(payload, row[2] as usize));
+    case_lines::hex_or_none(from_place(payload, row[2] as usize));
 }
 
 fn locator(payload: &[u8], row: [u64; 16]) {
     case_lines::number(row[1]);
-    case_lines::hex_or_none(after(
+    case_lines::hex_or_none(from_place(
         hns_encoding::first(payload, row[3] as usize),
         row[2] as usize,
     ));
@@ -219,7 +216,7 @@ fn ask(kind: u8, packet_type: u8, n: usize, bytes: &[u8]) {
         24 => lend(packet_type, n, bytes),
         25 => ask_item(packet_type, bytes, n),
         26 => ask_all(packet_type, bytes),
-        _ => ask_find(packet_type, after(bytes, 32), bytes),
+        _ => ask_find(packet_type, from_place(bytes, 32), bytes),
     }
 }
 

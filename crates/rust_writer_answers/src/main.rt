@@ -6,6 +6,8 @@
 // zeros the bytes leave out: after how many bytes they stand, and how many there are. So a short line has megabytes.
 //
 // An answer is the kind, 0 and the length written, or the refusal's number and values; then the output.
+use hns_p2p_fields::from_place;
+
 // Bytes of a line.
 const ROOM: usize = 4_096;
 
@@ -18,10 +20,6 @@ const OUT_ROOM: usize = 1_024;
 // Indexes to write: more than may be written.
 const NUMBERS: usize = 16_700;
 
-fn after(bytes: &[u8], n: usize) -> &[u8] {
-    hns_p2p_fields::from_place(bytes, n)
-}
-
 // The number that two's complement has as these bits.
 fn signed(bits: u64) -> i64 {
     if bits < 9_223_372_036_854_775_808 {
@@ -33,7 +31,7 @@ fn signed(bits: u64) -> i64 {
 }
 
 fn write_version(fields: &[u8], out: &mut [u8], row: &mut [u64]) {
-    let remote = after(fields, 20);
+    let remote = from_place(fields, 20);
     hns_ffi_writers::hns_write_version(
         hns_encoding::u32_at(fields, 0),
         hns_encoding::u64_at(fields, 4),
@@ -43,9 +41,9 @@ fn write_version(fields: &[u8], out: &mut [u8], row: &mut [u64]) {
         hns_encoding::u64_at(remote, 16),
         hns_encoding::u64_at(remote, 24),
         hns_encoding::u16_at(remote, 32),
-        after(remote, 34),
+        from_place(remote, 34),
         hns_encoding::u64_at(fields, 87),
-        after(fields, 100),
+        from_place(fields, 100),
         hns_encoding::u32_at(fields, 95),
         hns_encoding::u8_at(fields, 99) == 1,
         out,
@@ -57,9 +55,9 @@ fn write_reject(fields: &[u8], out: &mut [u8], row: &mut [u64]) {
     hns_ffi_writers::hns_write_reject(
         hns_encoding::u8_at(fields, 0),
         hns_encoding::u8_at(fields, 1),
-        after(fields, 35),
+        from_place(fields, 35),
         hns_encoding::u8_at(fields, 2) == 1,
-        after(fields, 3),
+        from_place(fields, 3),
         out,
         row,
     );
@@ -95,8 +93,8 @@ fn write_number(packet_type: u8, fields: &[u8], out: &mut [u8], row: &mut [u64])
 fn write_list(packet_type: u8, fields: &[u8], out: &mut [u8], row: &mut [u64]) {
     match packet_type {
         5 => hns_ffi_writers::hns_write_addr(fields, out, row),
-        9 => hns_ffi_writers::hns_write_locator(after(fields, 32), fields, out, row),
-        10 => hns_ffi_writers::hns_write_locator(after(fields, 32), fields, out, row),
+        9 => hns_ffi_writers::hns_write_locator(from_place(fields, 32), fields, out, row),
+        10 => hns_ffi_writers::hns_write_locator(from_place(fields, 32), fields, out, row),
         11 => hns_ffi_writers::hns_write_headers(fields, out, row),
         _ => hns_ffi_writers::hns_write_inventory(fields, out, row),
     }
@@ -108,7 +106,7 @@ fn write_fields(packet_type: u8, fields: &[u8], out: &mut [u8], row: &mut [u64])
         15 => write_reject(fields, out, row),
         22 => write_sendcmpct(fields, out, row),
         24 => write_getblocktxn(fields, out, row),
-        26 => hns_ffi_writers::hns_write_getproof(fields, after(fields, 32), out, row),
+        26 => hns_ffi_writers::hns_write_getproof(fields, from_place(fields, 32), out, row),
         _ => hns_ffi_writers::hns_write_raw(fields, out, row),
     }
 }
