@@ -5,6 +5,7 @@ ghost use mathlib.Core.Path.{_≡_};
 ghost use Prim.Native.Nat.{_-_, _<_, _≤_};
 ghost use lib.ListN.{length, drop};
 ghost use Rattle.hns_encoding.specs.Bytes.{numberAt};
+ghost use Rattle.case_input.specs.Zeros.{Zeros, Around, Cleared};
 
 // How far the input is taken.
 pub struct Lines {
@@ -124,24 +125,30 @@ fn least(a: usize, b: usize) -> usize
     if a < b { a } else { b }
 }
 
-// Puts the bytes of a long case around the zeros that its line leaves out: so a short line has a case of megabytes. `long`
-// is zeros before. What there is no room for is left out.
+// Puts the bytes of a long case around the zeros that its line leaves out: so a short line has a case of megabytes. What
+// there is no room for is left out.
 pub fn put_long(given: &[u8], before: usize, zeros: usize, long: &mut [u8]) -> Long
-    ensures { λ r. ⌜ (r .zeros ≤ r .end) × (r .end ≤ length (now (long .entry))) ⌝ }
+    ensures { λ r. ⌜ (r .zeros ≤ r .end) × ((r .end ≤ r .size) × (r .size ≤ length (now (long .entry)))) ⌝ }
+    ensures { λ r. ⌜ (Zeros (now (long .entry)) → Around (now (long .exit)) (r .zeros) (r .end) (r .size)) ⌝ }
 {
     let room = long.len();
     let start = least(before, room);
     let end = start + least(zeros, room - start);
+    let rest = hns_p2p_fields::from_place(given, before);
+    let more = least(rest.len(), room - end);
+    let size = end + more;
     Encoder::new().put_bytes(long, hns_encoding::first(given, start));
-    let e = Encoder { position: end }.put_bytes(long, hns_p2p_fields::from_place(given, before));
+    Encoder { position: end }.put_bytes(long, hns_encoding::first(rest, more));
     Long {
         zeros: start,
         end,
-        size: e.position,
+        size,
     }
 }
 
-fn clear(bytes: &mut [u8], from: usize, to: usize) {
+fn clear(bytes: &mut [u8], from: usize, to: usize)
+    ensures { λ _. ⌜ Cleared (now (bytes .entry)) from to (now (bytes .exit)) ⌝ }
+{
     let mut i = from;
     while i < to {
         if bytes.len() <= i {
@@ -153,7 +160,9 @@ fn clear(bytes: &mut [u8], from: usize, to: usize) {
 }
 
 // Makes what was put zeros again, so that no case has to write megabytes.
-pub fn clear_long(put: Long, long: &mut [u8]) {
+pub fn clear_long(put: Long, long: &mut [u8])
+    ensures { λ _. ⌜ (Around (now (long .entry)) (put .zeros) (put .end) (put .size) → Zeros (now (long .exit))) ⌝ }
+{
     clear(long, 0, put.zeros);
     clear(long, put.end, put.size);
 }
@@ -188,7 +197,8 @@ pub fn question_bytes(case: &[u8]) -> &[u8]
 
 // Puts the bytes of a long question: its last two numbers say which zeros they leave out.
 pub fn put_question(case: &[u8], long: &mut [u8]) -> Long
-    ensures { λ r. ⌜ (r .zeros ≤ r .end) × (r .end ≤ length (now (long .entry))) ⌝ }
+    ensures { λ r. ⌜ (r .zeros ≤ r .end) × ((r .end ≤ r .size) × (r .size ≤ length (now (long .entry)))) ⌝ }
+    ensures { λ r. ⌜ (Zeros (now (long .entry)) → Around (now (long .exit)) (r .zeros) (r .end) (r .size)) ⌝ }
 {
     let q = question(case);
     put_long(question_bytes(case), q.b as usize, q.c as usize, long)
