@@ -7,6 +7,7 @@
 //
 // An answer is the kind, and 0 with what was answered, or the refusal's number and values; then the lent output. For a
 // place it has the bytes that stand there: the Rust has no places.
+use case_input::Asked;
 use hns_encoder::Encoder;
 use hns_p2p_fields::from_place;
 
@@ -211,23 +212,22 @@ fn lend(packet_type: u8, room: usize, payload: &[u8]) {
     }
 }
 
-fn ask(kind: u8, packet_type: u8, n: usize, bytes: &[u8]) {
+fn ask(q: Asked, bytes: &[u8]) {
+    let kind = q.kind;
+    let n = q.a as usize;
+    io::print_decimal(1, kind as u64);
     match kind {
-        24 => lend(packet_type, n, bytes),
-        25 => ask_item(packet_type, bytes, n),
-        26 => ask_all(packet_type, bytes),
-        _ => ask_find(packet_type, from_place(bytes, 32), bytes),
+        24 => lend(q.about, n, bytes),
+        25 => ask_item(q.about, bytes, n),
+        26 => ask_all(q.about, bytes),
+        _ => ask_find(q.about, from_place(bytes, 32), bytes),
     }
 }
 
 fn answer(case: &[u8], long: &mut [u8]) {
-    let q = case_input::question(case);
     let put = case_input::put_question(case, long);
-    io::print_decimal(1, q.kind as u64);
     ask(
-        q.kind,
-        q.about,
-        q.a as usize,
+        case_input::question(case),
         hns_encoding::first(long, put.size),
     );
     case_input::clear_long(put, long);

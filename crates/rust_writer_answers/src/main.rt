@@ -6,6 +6,7 @@
 // zeros the bytes leave out: after how many bytes they stand, and how many there are. So a short line has megabytes.
 //
 // An answer is the kind, 0 and the length written, or the refusal's number and values; then the output.
+use case_input::Asked;
 use hns_p2p_fields::from_place;
 
 // Bytes of a line.
@@ -19,16 +20,6 @@ const OUT_ROOM: usize = 1_024;
 
 // Indexes to write: more than may be written.
 const NUMBERS: usize = 16_700;
-
-// The number that two's complement has as these bits.
-fn signed(bits: u64) -> i64 {
-    if bits < 9_223_372_036_854_775_808 {
-        bits as i64
-    } else {
-        let below = (18_446_744_073_709_551_615 - bits) as i64;
-        -1 - below
-    }
-}
 
 fn write_version(fields: &[u8], out: &mut [u8], row: &mut [u64]) {
     let remote = from_place(fields, 20);
@@ -85,7 +76,7 @@ fn write_number(packet_type: u8, fields: &[u8], out: &mut [u8], row: &mut [u64])
     match packet_type {
         2 => hns_ffi_writers::hns_write_nonce(first, out, row),
         3 => hns_ffi_writers::hns_write_nonce(first, out, row),
-        21 => hns_ffi_writers::hns_write_feefilter(signed(first), out, row),
+        21 => hns_ffi_writers::hns_write_feefilter(hns_p2p_blocks::signed_of(first), out, row),
         _ => hns_ffi_writers::hns_write_empty(out, row),
     }
 }
@@ -135,21 +126,19 @@ fn ask_lent(kind: u8, packet_type: u8, bytes: &[u8], out: &mut [u8]) {
     case_lines::hex_or_none(out);
 }
 
-fn ask(kind: u8, packet_type: u8, room: usize, bytes: &[u8]) {
+fn ask(q: Asked, bytes: &[u8]) {
     let mut out = [0xaau8; OUT_ROOM];
+    let room = q.a as usize;
+    io::print_decimal(1, q.kind as u64);
     if room <= OUT_ROOM {
-        ask_lent(kind, packet_type, bytes, &mut out[..room]);
+        ask_lent(q.kind, q.about, bytes, &mut out[..room]);
     }
 }
 
 fn answer(case: &[u8], long: &mut [u8]) {
-    let q = case_input::question(case);
     let put = case_input::put_question(case, long);
-    io::print_decimal(1, q.kind as u64);
     ask(
-        q.kind,
-        q.about,
-        q.a as usize,
+        case_input::question(case),
         hns_encoding::first(long, put.size),
     );
     case_input::clear_long(put, long);

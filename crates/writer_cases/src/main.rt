@@ -154,16 +154,6 @@ fn reject(fields: &[u8], out: &mut [u8]) -> Encoded {
     hns_p2p_writer::write_reject(message, code, from_place(fields, 35), present, hash, out)
 }
 
-// The number that two's complement has as these bits.
-fn signed(bits: u64) -> i64 {
-    if bits < 9_223_372_036_854_775_808 {
-        bits as i64
-    } else {
-        let below = (18_446_744_073_709_551_615 - bits) as i64;
-        -1 - below
-    }
-}
-
 fn index_at(list: &[u8], at: usize, width: usize) -> u64 {
     if width == 2 {
         hns_encoding::u16_at(list, at) as u64
@@ -213,7 +203,7 @@ fn write(asked: u8, fields: &[u8], out: &mut [u8]) -> Encoded {
         5 => locator(fields, out),
         6 => hns_p2p_writer::write_headers(fields, out),
         7 => reject(fields, out),
-        8 => hns_p2p_writer::write_feefilter(signed(first), out),
+        8 => hns_p2p_writer::write_feefilter(hns_p2p_blocks::signed_of(first), out),
         9 => {
             let mode = hns_encoding::u8_at(fields, 0);
             hns_p2p_writer::write_sendcmpct(mode, hns_encoding::u64_at(fields, 1), out)
