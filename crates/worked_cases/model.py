@@ -13,6 +13,11 @@ import hashlib
 import os
 import sys
 
+HERE = os.path.dirname(os.path.abspath(__file__))
+sys.dont_write_bytecode = True         # nothing is left beside the module
+sys.path.insert(0, os.path.join(HERE, "..", "case_lines"))
+import files
+
 MAGIC = {"mainnet": "d3f26e5b", "regtest": "cf9538ae"}
 
 
@@ -127,15 +132,7 @@ def genesis():
 
 def main(check):
     examples = TABLE + PUSHES + WORKED + list(genesis())
-    whole = "".join("%s %s\n" % example for example in examples)
-    path = os.path.join(os.path.dirname(os.path.abspath(__file__)), "stdout")
-    if check:
-        with open(path, newline="\n") as f:
-            if f.read() != whole:
-                sys.exit("%s is not what the model gives" % path)
-    else:
-        with open(path, "w", newline="\n") as f:
-            f.write(whole)
+    files.put(HERE, "stdout", ["%s %s" % example for example in examples], check)
     print("%d examples" % len(examples))
 
 

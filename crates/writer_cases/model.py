@@ -20,8 +20,12 @@ Part 5  the cases, in groups
 import functools
 import hashlib
 import os
-import re
 import sys
+
+HERE = os.path.dirname(os.path.abspath(__file__))
+sys.dont_write_bytecode = True         # nothing is left beside the module
+sys.path.insert(0, os.path.join(HERE, "..", "case_lines"))
+import files
 
 # ---------------------------------------------------------------------------
 # Part 1: the model
@@ -629,24 +633,8 @@ def main(check):
     index_cases()
     mixed_cases()
     card_checks()
-    for line, got in zip(LINES, ANSWERS):
-        assert re.fullmatch(r"[0-9a-f]{34,3600400}", line)
-        assert re.fullmatch(r"[a-z0-9 .]+", got) and "  " not in got and got == got.strip()
-    here = os.path.dirname(os.path.abspath(__file__))
-    for name, content in (("stdin", LINES), ("stdout", ANSWERS)):
-        path = os.path.join(here, name)
-        whole = "".join(line + "\n" for line in content)
-        if check:
-            with open(path, newline="\n") as f:
-                if f.read() != whole:
-                    sys.exit("%s is not what the model gives" % path)
-        else:
-            with open(path, "w", newline="\n") as f:
-                f.write(whole)
-    print("%d answers worked out by hand hold" % checks)
-    for name, first, count in GROUPS:
-        print("%6d cases, lines %d to %d: %s" % (count, first, first + count - 1, name))
-    print("%6d cases" % len(LINES))
+    files.put_cases(HERE, LINES, ANSWERS, (34, 3_600_400), "a-z0-9 .", check)
+    files.say(checks, GROUPS, len(LINES))
 
 
 if __name__ == "__main__":

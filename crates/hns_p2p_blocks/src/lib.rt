@@ -79,7 +79,8 @@ pub fn read_pong(payload: &[u8]) -> Packet
     eight(payload, Packet::Pong(hns_encoding::u64_at(payload, 0)))
 }
 
-fn signed_of(v: u64) -> i64
+// The number that two's complement has as these bits.
+pub fn signed_of(v: u64) -> i64
     ensures { λ r. ⌜ r ≡ signed v ⌝ }
 {
     if v < 9_223_372_036_854_775_808 {

@@ -5,7 +5,12 @@
 // where one is to be found. What is asked is 0 to 3. From 4 on the case is long: the same is asked, and the rest has zeros
 // that the line leaves out, so that a short line has a payload of megabytes. Two numbers of eight bytes come before its
 // bytes: how many of these stand before the zeros, and how many zeros there are.
-use hns_encoder::Encoder;
+use case_lines::field;
+use case_lines::hex;
+use case_lines::number;
+use case_lines::refused;
+use case_lines::signed;
+use case_lines::text;
 use hns_p2p_types::Found;
 use hns_p2p_types::Hash;
 use hns_p2p_types::Item;
@@ -16,7 +21,6 @@ use hns_p2p_types::RejectPacket;
 use hns_p2p_types::Span;
 use hns_p2p_types::Stored;
 use hns_p2p_types::VersionPacket;
-use hns_refusals::Refusal;
 
 const FRONT: usize = 10;
 
@@ -28,40 +32,6 @@ const ROOM: usize = 20_000;
 
 // Bytes of a long case's rest: a hash, and a payload one byte over the limit. The stack of 8 MB has room for one of these.
 const LONG_ROOM: usize = 8_000_033;
-
-fn text(t: &[u8]) {
-    io::write_all(1, t);
-}
-
-fn number(n: u64) {
-    text(b" ");
-    io::print_decimal(1, n);
-}
-
-fn signed(n: i64) {
-    let bits = hns_p2p_types::signed_bits(n);
-    if bits < 9_223_372_036_854_775_808 {
-        number(bits);
-    } else {
-        text(b" -");
-        io::print_decimal(1, std::num::wrapping_sub_u64(0, bits));
-    }
-}
-
-fn hex(bytes: &[u8]) {
-    let mut digits = [0u8; 640];
-    let e = survey_digits::put_hex(Encoder::new(), &mut digits, bytes);
-    text(b" ");
-    text(hns_encoding::first(&digits, e.position));
-}
-
-fn refused(refusal: Refusal) {
-    text(b"refused");
-    number(refusal.number);
-    number(refusal.a);
-    number(refusal.b);
-    number(refusal.c);
-}
 
 fn address(a: hns_p2p_types::NetAddress) {
     number(a.time);
@@ -124,11 +94,6 @@ fn raw(packet_type: u64, span: Span) {
     number(span.length as u64);
 }
 
-fn one(name: &[u8], n: u64) {
-    text(name);
-    number(n);
-}
-
 // The packets of lists and raw bytes; the others are printed by `show`.
 fn show_rest(packet: Packet) {
     match packet {
@@ -161,8 +126,8 @@ fn show(packet: Packet) {
     match packet {
         Packet::Version(v) => version(v),
         Packet::Verack => text(b"verack"),
-        Packet::Ping(nonce) => one(b"ping", nonce),
-        Packet::Pong(nonce) => one(b"pong", nonce),
+        Packet::Ping(nonce) => field(b"ping", nonce),
+        Packet::Pong(nonce) => field(b"pong", nonce),
         Packet::GetAddr => text(b"getaddr"),
         Packet::SendHeaders => text(b"sendheaders"),
         Packet::Reject(r) => reject(r),
@@ -173,16 +138,16 @@ fn show(packet: Packet) {
             signed(rate);
         }
         Packet::SendCmpct { mode, version } => {
-            one(b"sendcmpct", mode as u64);
+            field(b"sendcmpct", mode as u64);
             number(version);
         }
         Packet::GetBlockTxn(request) => {
-            one(b"getblocktxn", request.block_hash as u64);
+            field(b"getblocktxn", request.block_hash as u64);
             let indexes = request.indexes;
             listed(b"", indexes);
         }
         Packet::GetProof(packet) => {
-            one(b"getproof", packet.root as u64);
+            field(b"getproof", packet.root as u64);
             number(packet.key as u64);
         }
         Packet::Refused(refusal) => refused(refusal),
@@ -206,12 +171,12 @@ fn ask_item(packet_type: u8, payload: &[u8], place: usize) {
             address(a);
         }
         Item::Inventory { kind, hash } => {
-            one(b"inventory", kind as u64);
+            field(b"inventory", kind as u64);
             number(hash as u64);
         }
-        Item::Hash(place) => one(b"hash", place as u64),
-        Item::Header(place) => one(b"header", place as u64),
-        Item::Index(index) => one(b"index", index),
+        Item::Hash(place) => field(b"hash", place as u64),
+        Item::Header(place) => field(b"header", place as u64),
+        Item::Index(index) => field(b"index", index),
         Item::Refused(refusal) => refused(refusal),
     }
 }
@@ -269,7 +234,7 @@ fn ask_indexes(payload: &[u8], out: &mut [u64]) {
             0
         }
         Stored::Count(count) => {
-            one(b"indexes", count as u64);
+            field(b"indexes", count as u64);
             count
         }
     };
@@ -295,42 +260,13 @@ fn ask(asked: u8, packet_type: u8, n: usize, rest: &[u8]) {
     }
 }
 
-fn clear(bytes: &mut [u8], from: usize, to: usize) {
-    let mut i = from;
-    while i < to {
-        if bytes.len() <= i {
-            return;
-        }
-        bytes[i] = 0;
-        i += 1;
-    }
-}
-
-// `long` is zeros: the bytes given are put there for the question, and cleared again, so that no case has to write
-// megabytes. Nothing is asked where the two numbers do not fit what is there.
 fn ask_long(asked: u8, packet_type: u8, n: usize, rest: &[u8], long: &mut [u8]) {
-    if rest.len() < LONG_FRONT {
-        return;
-    }
     let before = hns_encoding::u64_at(rest, 0) as usize;
     let zeros = hns_encoding::u64_at(rest, 8) as usize;
-    let given = &rest[LONG_FRONT..];
-    if given.len() < before {
-        return;
-    }
-    if long.len() < given.len() {
-        return;
-    }
-    if long.len() - given.len() < zeros {
-        return;
-    }
-    let end = before + zeros;
-    let size = given.len() + zeros;
-    Encoder::new().put_bytes(long, hns_encoding::first(given, before));
-    Encoder { position: end }.put_bytes(long, &given[before..]);
-    ask(asked, packet_type, n, hns_encoding::first(long, size));
-    clear(long, 0, before);
-    clear(long, end, size);
+    let given = hns_p2p_fields::from_place(rest, LONG_FRONT);
+    let put = case_input::put_long(given, before, zeros, long);
+    ask(asked, packet_type, n, hns_encoding::first(long, put.size));
+    case_input::clear_long(put, long);
 }
 
 fn answer(case: &[u8], long: &mut [u8]) {
@@ -348,54 +284,18 @@ fn answer(case: &[u8], long: &mut [u8]) {
     ask_long(asked - 4, packet_type, n, rest, long);
 }
 
-// A hexadecimal digit after the ones before it: two make a byte.
-fn take_digit(case: &mut [u8], n: usize, digit: u8) {
-    let value = (digit % 16 + digit / 58 * 9) % 16;
-    let i = n / 2;
-    if i < case.len() {
-        case[i] = case[i] % 16 * 16 + value;
-    }
-}
-
-// Takes a byte of a line after n digits, and answers how many there are then: no line has more than there is room for.
-fn take(case: &mut [u8], n: usize, byte: u8, long: &mut [u8]) -> usize {
-    if byte == 10 {
-        answer(hns_encoding::first(case, n / 2), long);
-        text(b"\n");
-        return 0;
-    }
-    take_digit(case, n, byte);
-    if n < ROOM * 2 { n + 1 } else { n }
-}
-
-// The lines of a part of the input: n digits of a line came before it, and how many stand after it.
-fn answers(lines: &[u8], case: &mut [u8], n: usize, long: &mut [u8]) -> usize {
-    let mut digits = n;
-    let mut i: usize = 0;
-    while i < lines.len() {
-        digits = take(case, digits, lines[i], long);
-        i += 1;
-    }
-    digits
-}
-
-// At most 100 parts of the input, which is far more than the file has.
-fn run(lines: &mut [u8], case: &mut [u8], long: &mut [u8]) {
-    let mut digits: usize = 0;
-    let mut parts: usize = 100;
-    while 0 < parts {
-        let size = io::read_full(0, lines);
-        if size == 0 {
-            return;
-        }
-        digits = answers(hns_encoding::first(lines, size), case, digits, long);
-        parts -= 1;
+fn run(buffer: &mut [u8], case: &mut [u8], long: &mut [u8]) {
+    let mut lines = case_input::first_case(buffer, case);
+    while 0 < lines.left {
+        answer(hns_encoding::first(case, lines.size), long);
+        case_lines::end_line();
+        lines = case_input::next_case(lines, buffer, case);
     }
 }
 
 fn main() {
-    let mut lines = io::large_buffer();
+    let mut buffer = io::large_buffer();
     let mut case = [0u8; ROOM];
     let mut long = [0u8; LONG_ROOM];
-    run(&mut lines, &mut case, &mut long);
+    run(&mut buffer, &mut case, &mut long);
 }

@@ -4,9 +4,12 @@
 // A case is the packet type, four numbers of four bytes, and bytes. The first number is the output's length. The others
 // say what payload the bytes stand for: so many of them, then a piece of so many, repeated so many times, then the rest.
 // So a short line has a payload of a thousand addresses, or of megabytes.
+use case_lines::field;
+use case_lines::refused;
+use case_lines::text;
 use hns_encoder::Encoder;
+use hns_p2p_fields::from_place;
 use hns_p2p_frame::Encoded;
-use hns_refusals::Refusal;
 
 // The type and the four numbers.
 const FRONT: usize = 17;
@@ -23,30 +26,10 @@ const OUT_ROOM: usize = 88_100;
 // The longest encoding that is shown whole, as every version and reject is. Of a longer one the two ends are shown.
 const WHOLE: usize = 400;
 
-fn text(t: &[u8]) {
-    io::write_all(1, t);
-}
-
-fn number(n: u64) {
-    text(b" ");
-    io::print_decimal(1, n);
-}
-
 fn hex(bytes: &[u8]) {
-    let mut digits = [0u8; 2 * WHOLE];
     if 0 < bytes.len() {
-        let e = survey_digits::put_hex(Encoder::new(), &mut digits, bytes);
-        text(b" ");
-        text(hns_encoding::first(&digits, e.position));
+        case_lines::hex(bytes);
     }
-}
-
-fn refused(refusal: Refusal) {
-    text(b"refused");
-    number(refusal.number);
-    number(refusal.a);
-    number(refusal.b);
-    number(refusal.c);
 }
 
 // What an output holds before the call. No byte is zero, since what is not kept is written as zero.
@@ -81,12 +64,11 @@ fn show(out: &[u8], written: usize) {
     } else {
         hex(hns_encoding::first(bytes, 64));
         text(b" to");
-        hex(hns_p2p_fields::from_place(bytes, bytes.len() - 8));
+        hex(from_place(bytes, bytes.len() - 8));
     }
     text(b" behind");
-    hex(hns_encoding::first(hns_p2p_fields::from_place(out, written), 8));
-    text(b" sum");
-    number(sum(out));
+    hex(hns_encoding::first(from_place(out, written), 8));
+    field(b" sum", sum(out));
 }
 
 fn ask(packet_type: u8, payload: &[u8], out: &mut [u8]) {
@@ -97,8 +79,7 @@ fn ask(packet_type: u8, payload: &[u8], out: &mut [u8]) {
             0
         }
         Encoded::Written(n) => {
-            text(b"written");
-            number(n as u64);
+            field(b"written", n as u64);
             n
         }
     };
@@ -120,11 +101,11 @@ fn put_payload(case: &[u8], payload: &mut [u8]) -> usize {
     let before = hns_encoding::u32_at(case, 5) as usize;
     let width = hns_encoding::u32_at(case, 9) as usize;
     let times = hns_encoding::u32_at(case, 13) as usize;
-    let given = hns_p2p_fields::from_place(case, FRONT);
-    let rest = hns_p2p_fields::from_place(given, before);
+    let given = from_place(case, FRONT);
+    let rest = from_place(given, before);
     let e = Encoder::new().put_bytes(payload, hns_encoding::first(given, before));
     let e = put_run(e, payload, hns_encoding::first(rest, width), times);
-    let e = e.put_bytes(payload, hns_p2p_fields::from_place(rest, width));
+    let e = e.put_bytes(payload, from_place(rest, width));
     e.position
 }
 
@@ -144,55 +125,19 @@ fn answer(case: &[u8], payload: &mut [u8], out: &mut [u8]) {
     }
 }
 
-// A hexadecimal digit after the ones before it: two make a byte.
-fn take_digit(case: &mut [u8], n: usize, digit: u8) {
-    let value = (digit % 16 + digit / 58 * 9) % 16;
-    let i = n / 2;
-    if i < case.len() {
-        case[i] = case[i] % 16 * 16 + value;
-    }
-}
-
-// Takes a byte of a line after n digits, and answers how many there are then: no line has more than there is room for.
-fn take(case: &mut [u8], n: usize, byte: u8, payload: &mut [u8], out: &mut [u8]) -> usize {
-    if byte == 10 {
-        answer(hns_encoding::first(case, n / 2), payload, out);
-        text(b"\n");
-        return 0;
-    }
-    take_digit(case, n, byte);
-    if n < ROOM * 2 { n + 1 } else { n }
-}
-
-// The lines of a part of the input: n digits of a line came before it, and how many stand after it.
-fn answers(lines: &[u8], case: &mut [u8], n: usize, payload: &mut [u8], out: &mut [u8]) -> usize {
-    let mut digits = n;
-    let mut i: usize = 0;
-    while i < lines.len() {
-        digits = take(case, digits, lines[i], payload, out);
-        i += 1;
-    }
-    digits
-}
-
-// At most 1,000 parts of the input, which is more than the file has.
-fn run(lines: &mut [u8], case: &mut [u8], payload: &mut [u8], out: &mut [u8]) {
-    let mut digits: usize = 0;
-    let mut parts: usize = 1_000;
-    while 0 < parts {
-        let size = io::read_full(0, lines);
-        if size == 0 {
-            return;
-        }
-        digits = answers(hns_encoding::first(lines, size), case, digits, payload, out);
-        parts -= 1;
+fn run(buffer: &mut [u8], case: &mut [u8], payload: &mut [u8], out: &mut [u8]) {
+    let mut lines = case_input::first_case(buffer, case);
+    while 0 < lines.left {
+        answer(hns_encoding::first(case, lines.size), payload, out);
+        case_lines::end_line();
+        lines = case_input::next_case(lines, buffer, case);
     }
 }
 
 fn main() {
-    let mut lines = io::buffer();
+    let mut buffer = io::buffer();
     let mut case = [0u8; ROOM];
     let mut payload = [0u8; PAYLOAD_ROOM];
     let mut out = [0u8; OUT_ROOM];
-    run(&mut lines, &mut case, &mut payload, &mut out);
+    run(&mut buffer, &mut case, &mut payload, &mut out);
 }

@@ -2,33 +2,11 @@
 // stdout has what the Rust answered. `differential/run --answers` makes both.
 //
 // A case is its kind, a network, three numbers of eight bytes, and its bytes.
-use hns_encoder::Encoder;
-ghost use Prim.Native.Nat.{_+_, _<_, _≤_};
-
-const FRONT: usize = 26;
-
-fn text(t: &[u8]) {
-    io::write_all(1, t);
-}
-
-fn hex(bytes: &[u8]) {
-    let mut digits = [0u8; 512];
-    let e = survey_digits::put_hex(Encoder::new(), &mut digits, bytes);
-    text(b" ");
-    text(hns_encoding::first(&digits, e.position));
-}
-
-fn number(n: u64) {
-    text(b" ");
-    io::print_decimal(1, n);
-}
+use case_lines::hex;
+use case_lines::number;
 
 fn row(answer: [u64; 6]) {
-    number(answer[0]);
-    number(answer[1]);
-    number(answer[2]);
-    number(answer[3]);
-    number(answer[4]);
+    case_lines::five(answer[0], answer[1], answer[2], answer[3], answer[4]);
     number(answer[5]);
 }
 
@@ -152,66 +130,36 @@ fn show_sizes(bytes: &[u8], a: usize) {
 }
 
 fn answer(case: &[u8]) {
-    if case.len() < FRONT {
-        return;
-    }
-    let kind = hns_encoding::u8_at(case, 0);
-    let network = hns_encoding::u8_at(case, 1);
-    let a = hns_encoding::u64_at(case, 2);
-    let b = hns_encoding::u64_at(case, 10);
-    let c = hns_encoding::u64_at(case, 18);
-    let bytes = &case[FRONT..];
+    let q = case_input::question(case);
+    let bytes = case_input::question_bytes(case);
+    let kind = q.kind;
     io::print_decimal(1, kind as u64);
     if kind < 10 {
-        read(kind, bytes, a as usize, b as usize, c as usize);
+        read(kind, bytes, q.a as usize, q.b as usize, q.c as usize);
     } else if kind < 17 {
-        show_put(kind, bytes, a as usize, b);
+        show_put(kind, bytes, q.a as usize, q.b);
     } else if kind < 19 {
-        show_header(kind, bytes, a as usize);
+        show_header(kind, bytes, q.a as usize);
     } else if kind < 22 {
-        show_frame(kind, network, bytes, a);
+        show_frame(kind, q.about, bytes, q.a);
     } else if kind < 23 {
-        show_push(network, bytes, a as usize);
+        show_push(q.about, bytes, q.a as usize);
     } else {
-        show_sizes(bytes, a as usize);
-    }
-    text(b"\n");
-}
-
-// A hexadecimal digit after the ones before it: two make a byte.
-fn take_digit(case: &mut [u8], n: usize, digit: u8) {
-    let value = (digit % 16 + digit / 58 * 9) % 16;
-    let i = n / 2;
-    if i < case.len() {
-        case[i] = case[i] % 16 * 16 + value;
+        show_sizes(bytes, q.a as usize);
     }
 }
 
-// Takes a byte of a line after n digits, and answers how many there are then.
-fn take(case: &mut [u8], n: usize, byte: u8) -> usize
-    requires { ⌜ n + 1 < 18446744073709551616 ⌝ }
-    ensures { λ r. ⌜ r ≤ n + 1 ⌝ }
-{
-    if byte == 10 {
-        answer(hns_encoding::first(case, n / 2));
-        return 0;
-    }
-    take_digit(case, n, byte);
-    n + 1
-}
-
-fn answers(lines: &[u8], case: &mut [u8]) {
-    let mut n: usize = 0;
-    let mut i: usize = 0;
-    while i < lines.len() {
-        n = take(case, n, lines[i]);
-        i += 1;
+fn run(buffer: &mut [u8], case: &mut [u8]) {
+    let mut lines = case_input::first_case(buffer, case);
+    while 0 < lines.left {
+        answer(hns_encoding::first(case, lines.size));
+        case_lines::end_line();
+        lines = case_input::next_case(lines, buffer, case);
     }
 }
 
 fn main() {
-    let mut lines = [0u8; 131_072];
+    let mut buffer = io::large_buffer();
     let mut case = [0u8; 1_024];
-    let size = io::read_full(0, &mut lines);
-    answers(hns_encoding::first(&lines, size), &mut case);
+    run(&mut buffer, &mut case);
 }

@@ -7,9 +7,9 @@
 //
 // An answer is the kind, and 0 with what was answered, or the refusal's number and values; then the lent output. For a
 // place it has the bytes that stand there: the Rust has no places.
+use case_input::Asked;
 use hns_encoder::Encoder;
-
-const FRONT: usize = 26;
+use hns_p2p_fields::from_place;
 
 // Bytes of a line.
 const ROOM: usize = 4_096;
@@ -20,13 +20,9 @@ const LONG_ROOM: usize = 8_000_033;
 // Bytes of a lent output.
 const OUT_ROOM: usize = 1_024;
 
-fn after(bytes: &[u8], n: usize) -> &[u8] {
-    hns_p2p_fields::from_place(bytes, n)
-}
-
 // So many bytes at a place.
 fn there(bytes: &[u8], at: u64, n: u64) -> &[u8] {
-    hns_encoding::first(after(bytes, at as usize), n as usize)
+    hns_encoding::first(from_place(bytes, at as usize), n as usize)
 }
 
 fn mask(bytes: &mut [u8]) {
@@ -42,7 +38,7 @@ fn masked(bytes: &[u8]) {
     let mut shown = [0u8; 255];
     Encoder::new().put_bytes(&mut shown, bytes);
     mask(&mut shown);
-    case_lines::hex(hns_encoding::first(&shown, bytes.len()));
+    case_lines::hex_or_none(hns_encoding::first(&shown, bytes.len()));
 }
 
 fn two(row: [u64; 16]) {
@@ -60,12 +56,12 @@ fn version(payload: &[u8], row: [u64; 16]) {
 
 fn listed(payload: &[u8], row: [u64; 16]) {
     case_lines::number(row[1]);
-    case_lines::hex(after(payload, row[2] as usize));
+    case_lines::hex_or_none(from_place(payload, row[2] as usize));
 }
 
 fn locator(payload: &[u8], row: [u64; 16]) {
     case_lines::number(row[1]);
-    case_lines::hex(after(
+    case_lines::hex_or_none(from_place(
         hns_encoding::first(payload, row[3] as usize),
         row[2] as usize,
     ));
@@ -206,7 +202,7 @@ fn ask_find(packet_type: u8, payload: &[u8], hash: &[u8]) {
 // The output that is lent for a text is shown after the packet.
 fn ask_lent(packet_type: u8, payload: &[u8], out: &mut [u8]) {
     ask_packet(packet_type, payload, out);
-    case_lines::hex(out);
+    case_lines::hex_or_none(out);
 }
 
 fn lend(packet_type: u8, room: usize, payload: &[u8]) {
@@ -216,111 +212,39 @@ fn lend(packet_type: u8, room: usize, payload: &[u8]) {
     }
 }
 
-fn ask(kind: u8, packet_type: u8, n: usize, bytes: &[u8]) {
-    match kind {
-        24 => lend(packet_type, n, bytes),
-        25 => ask_item(packet_type, bytes, n),
-        26 => ask_all(packet_type, bytes),
-        _ => ask_find(packet_type, after(bytes, 32), bytes),
-    }
-}
-
-fn clear(bytes: &mut [u8], from: usize, to: usize) {
-    let mut i = from;
-    while i < to {
-        if bytes.len() <= i {
-            return;
-        }
-        bytes[i] = 0;
-        i += 1;
-    }
-}
-
-// Puts the bytes that a line gives where they stand around the zeros, and answers the place after them.
-fn put_given(case: &[u8], before: usize, end: usize, long: &mut [u8]) -> usize {
-    let given = after(case, FRONT);
-    Encoder::new().put_bytes(long, hns_encoding::first(given, before));
-    let e = Encoder { position: end }.put_bytes(long, after(given, before));
-    e.position
-}
-
-fn ask_case(case: &[u8], bytes: &[u8]) {
-    let kind = hns_encoding::u8_at(case, 0);
-    let packet_type = hns_encoding::u8_at(case, 1);
-    let n = hns_encoding::u64_at(case, 2) as usize;
+fn ask(q: Asked, bytes: &[u8]) {
+    let kind = q.kind;
+    let n = q.a as usize;
     io::print_decimal(1, kind as u64);
-    ask(kind, packet_type, n, bytes);
-    case_lines::text(b"\n");
-}
-
-// `long` is zeros: the bytes given are put there for the question, and cleared again, so that no case has to write
-// megabytes.
-fn ask_long(case: &[u8], before: usize, end: usize, long: &mut [u8]) {
-    let size = put_given(case, before, end, long);
-    ask_case(case, hns_encoding::first(long, size));
-    clear(long, 0, before);
-    clear(long, end, size);
+    match kind {
+        24 => lend(q.about, n, bytes),
+        25 => ask_item(q.about, bytes, n),
+        26 => ask_all(q.about, bytes),
+        _ => ask_find(q.about, from_place(bytes, 32), bytes),
+    }
 }
 
 fn answer(case: &[u8], long: &mut [u8]) {
-    let before = hns_encoding::u64_at(case, 10) as usize;
-    let zeros = hns_encoding::u64_at(case, 18) as usize;
-    if LONG_ROOM < before {
-        return;
-    }
-    if LONG_ROOM < zeros {
-        return;
-    }
-    ask_long(case, before, before + zeros, long);
+    let put = case_input::put_question(case, long);
+    ask(
+        case_input::question(case),
+        hns_encoding::first(long, put.size),
+    );
+    case_input::clear_long(put, long);
 }
 
-// A hexadecimal digit after the ones before it: two make a byte.
-fn take_digit(case: &mut [u8], n: usize, digit: u8) {
-    let value = (digit % 16 + digit / 58 * 9) % 16;
-    let i = n / 2;
-    if i < case.len() {
-        case[i] = case[i] % 16 * 16 + value;
-    }
-}
-
-// Takes a byte of a line after n digits, and answers how many there are then: no line has more than there is room for.
-fn take(case: &mut [u8], n: usize, byte: u8, long: &mut [u8]) -> usize {
-    if byte == 10 {
-        answer(hns_encoding::first(case, n / 2), long);
-        return 0;
-    }
-    take_digit(case, n, byte);
-    if n < ROOM * 2 { n + 1 } else { n }
-}
-
-// The lines of a part of the input: n digits of a line came before it, and how many stand after it.
-fn answers(lines: &[u8], case: &mut [u8], n: usize, long: &mut [u8]) -> usize {
-    let mut digits = n;
-    let mut i: usize = 0;
-    while i < lines.len() {
-        digits = take(case, digits, lines[i], long);
-        i += 1;
-    }
-    digits
-}
-
-// At most 100 parts of the input, which is far more than the file has.
-fn run(lines: &mut [u8], case: &mut [u8], long: &mut [u8]) {
-    let mut digits: usize = 0;
-    let mut parts: usize = 100;
-    while 0 < parts {
-        let size = io::read_full(0, lines);
-        if size == 0 {
-            return;
-        }
-        digits = answers(hns_encoding::first(lines, size), case, digits, long);
-        parts -= 1;
+fn run(buffer: &mut [u8], case: &mut [u8], long: &mut [u8]) {
+    let mut lines = case_input::first_case(buffer, case);
+    while 0 < lines.left {
+        answer(hns_encoding::first(case, lines.size), long);
+        case_lines::end_line();
+        lines = case_input::next_case(lines, buffer, case);
     }
 }
 
 fn main() {
-    let mut lines = io::large_buffer();
+    let mut buffer = io::large_buffer();
     let mut case = [0u8; ROOM];
     let mut long = [0u8; LONG_ROOM];
-    run(&mut lines, &mut case, &mut long);
+    run(&mut buffer, &mut case, &mut long);
 }

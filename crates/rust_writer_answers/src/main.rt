@@ -6,9 +6,8 @@
 // zeros the bytes leave out: after how many bytes they stand, and how many there are. So a short line has megabytes.
 //
 // An answer is the kind, 0 and the length written, or the refusal's number and values; then the output.
-use hns_encoder::Encoder;
-
-const FRONT: usize = 26;
+use case_input::Asked;
+use hns_p2p_fields::from_place;
 
 // Bytes of a line.
 const ROOM: usize = 4_096;
@@ -22,22 +21,8 @@ const OUT_ROOM: usize = 1_024;
 // Indexes to write: more than may be written.
 const NUMBERS: usize = 16_700;
 
-fn after(bytes: &[u8], n: usize) -> &[u8] {
-    hns_p2p_fields::from_place(bytes, n)
-}
-
-// The number that two's complement has as these bits.
-fn signed(bits: u64) -> i64 {
-    if bits < 9_223_372_036_854_775_808 {
-        bits as i64
-    } else {
-        let below = (18_446_744_073_709_551_615 - bits) as i64;
-        -1 - below
-    }
-}
-
 fn write_version(fields: &[u8], out: &mut [u8], row: &mut [u64]) {
-    let remote = after(fields, 20);
+    let remote = from_place(fields, 20);
     hns_ffi_writers::hns_write_version(
         hns_encoding::u32_at(fields, 0),
         hns_encoding::u64_at(fields, 4),
@@ -47,9 +32,9 @@ fn write_version(fields: &[u8], out: &mut [u8], row: &mut [u64]) {
         hns_encoding::u64_at(remote, 16),
         hns_encoding::u64_at(remote, 24),
         hns_encoding::u16_at(remote, 32),
-        after(remote, 34),
+        from_place(remote, 34),
         hns_encoding::u64_at(fields, 87),
-        after(fields, 100),
+        from_place(fields, 100),
         hns_encoding::u32_at(fields, 95),
         hns_encoding::u8_at(fields, 99) == 1,
         out,
@@ -61,9 +46,9 @@ fn write_reject(fields: &[u8], out: &mut [u8], row: &mut [u64]) {
     hns_ffi_writers::hns_write_reject(
         hns_encoding::u8_at(fields, 0),
         hns_encoding::u8_at(fields, 1),
-        after(fields, 35),
+        from_place(fields, 35),
         hns_encoding::u8_at(fields, 2) == 1,
-        after(fields, 3),
+        from_place(fields, 3),
         out,
         row,
     );
@@ -91,7 +76,7 @@ fn write_number(packet_type: u8, fields: &[u8], out: &mut [u8], row: &mut [u64])
     match packet_type {
         2 => hns_ffi_writers::hns_write_nonce(first, out, row),
         3 => hns_ffi_writers::hns_write_nonce(first, out, row),
-        21 => hns_ffi_writers::hns_write_feefilter(signed(first), out, row),
+        21 => hns_ffi_writers::hns_write_feefilter(hns_p2p_blocks::signed_of(first), out, row),
         _ => hns_ffi_writers::hns_write_empty(out, row),
     }
 }
@@ -99,8 +84,8 @@ fn write_number(packet_type: u8, fields: &[u8], out: &mut [u8], row: &mut [u64])
 fn write_list(packet_type: u8, fields: &[u8], out: &mut [u8], row: &mut [u64]) {
     match packet_type {
         5 => hns_ffi_writers::hns_write_addr(fields, out, row),
-        9 => hns_ffi_writers::hns_write_locator(after(fields, 32), fields, out, row),
-        10 => hns_ffi_writers::hns_write_locator(after(fields, 32), fields, out, row),
+        9 => hns_ffi_writers::hns_write_locator(from_place(fields, 32), fields, out, row),
+        10 => hns_ffi_writers::hns_write_locator(from_place(fields, 32), fields, out, row),
         11 => hns_ffi_writers::hns_write_headers(fields, out, row),
         _ => hns_ffi_writers::hns_write_inventory(fields, out, row),
     }
@@ -112,7 +97,7 @@ fn write_fields(packet_type: u8, fields: &[u8], out: &mut [u8], row: &mut [u64])
         15 => write_reject(fields, out, row),
         22 => write_sendcmpct(fields, out, row),
         24 => write_getblocktxn(fields, out, row),
-        26 => hns_ffi_writers::hns_write_getproof(fields, after(fields, 32), out, row),
+        26 => hns_ffi_writers::hns_write_getproof(fields, from_place(fields, 32), out, row),
         _ => hns_ffi_writers::hns_write_raw(fields, out, row),
     }
 }
@@ -138,112 +123,39 @@ fn ask_lent(kind: u8, packet_type: u8, bytes: &[u8], out: &mut [u8]) {
     let mut row = [0u64; 16];
     call(kind, packet_type, bytes, out, &mut row);
     case_lines::count(row);
-    case_lines::hex(out);
+    case_lines::hex_or_none(out);
 }
 
-fn ask(kind: u8, packet_type: u8, room: usize, bytes: &[u8]) {
+fn ask(q: Asked, bytes: &[u8]) {
     let mut out = [0xaau8; OUT_ROOM];
+    let room = q.a as usize;
+    io::print_decimal(1, q.kind as u64);
     if room <= OUT_ROOM {
-        ask_lent(kind, packet_type, bytes, &mut out[..room]);
+        ask_lent(q.kind, q.about, bytes, &mut out[..room]);
     }
-}
-
-fn clear(bytes: &mut [u8], from: usize, to: usize) {
-    let mut i = from;
-    while i < to {
-        if bytes.len() <= i {
-            return;
-        }
-        bytes[i] = 0;
-        i += 1;
-    }
-}
-
-// Puts the bytes that a line gives where they stand around the zeros, and answers the place after them.
-fn put_given(case: &[u8], before: usize, end: usize, long: &mut [u8]) -> usize {
-    let given = after(case, FRONT);
-    Encoder::new().put_bytes(long, hns_encoding::first(given, before));
-    let e = Encoder { position: end }.put_bytes(long, after(given, before));
-    e.position
-}
-
-fn ask_case(case: &[u8], bytes: &[u8]) {
-    let kind = hns_encoding::u8_at(case, 0);
-    let packet_type = hns_encoding::u8_at(case, 1);
-    let n = hns_encoding::u64_at(case, 2) as usize;
-    io::print_decimal(1, kind as u64);
-    ask(kind, packet_type, n, bytes);
-    case_lines::text(b"\n");
-}
-
-// `long` is zeros: the bytes given are put there for the question, and cleared again, so that no case has to write
-// megabytes.
-fn ask_long(case: &[u8], before: usize, end: usize, long: &mut [u8]) {
-    let size = put_given(case, before, end, long);
-    ask_case(case, hns_encoding::first(long, size));
-    clear(long, 0, before);
-    clear(long, end, size);
 }
 
 fn answer(case: &[u8], long: &mut [u8]) {
-    let before = hns_encoding::u64_at(case, 10) as usize;
-    let zeros = hns_encoding::u64_at(case, 18) as usize;
-    if LONG_ROOM < before {
-        return;
-    }
-    if LONG_ROOM < zeros {
-        return;
-    }
-    ask_long(case, before, before + zeros, long);
+    let put = case_input::put_question(case, long);
+    ask(
+        case_input::question(case),
+        hns_encoding::first(long, put.size),
+    );
+    case_input::clear_long(put, long);
 }
 
-// A hexadecimal digit after the ones before it: two make a byte.
-fn take_digit(case: &mut [u8], n: usize, digit: u8) {
-    let value = (digit % 16 + digit / 58 * 9) % 16;
-    let i = n / 2;
-    if i < case.len() {
-        case[i] = case[i] % 16 * 16 + value;
-    }
-}
-
-// Takes a byte of a line after n digits, and answers how many there are then: no line has more than there is room for.
-fn take(case: &mut [u8], n: usize, byte: u8, long: &mut [u8]) -> usize {
-    if byte == 10 {
-        answer(hns_encoding::first(case, n / 2), long);
-        return 0;
-    }
-    take_digit(case, n, byte);
-    if n < ROOM * 2 { n + 1 } else { n }
-}
-
-// The lines of a part of the input: n digits of a line came before it, and how many stand after it.
-fn answers(lines: &[u8], case: &mut [u8], n: usize, long: &mut [u8]) -> usize {
-    let mut digits = n;
-    let mut i: usize = 0;
-    while i < lines.len() {
-        digits = take(case, digits, lines[i], long);
-        i += 1;
-    }
-    digits
-}
-
-// At most 100 parts of the input, which is far more than the file has.
-fn run(lines: &mut [u8], case: &mut [u8], long: &mut [u8]) {
-    let mut digits: usize = 0;
-    let mut parts: usize = 100;
-    while 0 < parts {
-        let size = io::read_full(0, lines);
-        if size == 0 {
-            return;
-        }
-        digits = answers(hns_encoding::first(lines, size), case, digits, long);
-        parts -= 1;
+fn run(buffer: &mut [u8], case: &mut [u8], long: &mut [u8]) {
+    let mut lines = case_input::first_case(buffer, case);
+    while 0 < lines.left {
+        answer(hns_encoding::first(case, lines.size), long);
+        case_lines::end_line();
+        lines = case_input::next_case(lines, buffer, case);
     }
 }
 
 fn main() {
-    let mut lines = io::large_buffer();
+    let mut buffer = io::large_buffer();
     let mut case = [0u8; ROOM];
     let mut long = [0u8; LONG_ROOM];
-    run(&mut lines, &mut case, &mut long);
+    run(&mut buffer, &mut case, &mut long);
 }

@@ -1,5 +1,9 @@
 // Document 01's examples of the refusals and compact sizes of hns_encoding and hns_header_consensus, and the genesis
 // headers, a line a case: what was asked and what was answered. The file stdout has the lines that are right.
+use case_lines::end_line;
+use case_lines::field;
+use case_lines::hex;
+use case_lines::text;
 use hns_encoder::Encoder;
 use hns_encoding::Finished;
 use hns_encoding::Number;
@@ -9,29 +13,10 @@ use hns_header_consensus::Decoded;
 use hns_header_consensus::Header;
 use hns_refusals::Refusal;
 
-fn text(t: &[u8]) {
-    io::write_all(1, t);
-}
-
-fn value(n: u64) {
-    text(b" ");
-    io::print_decimal(1, n);
-}
-
-fn hex(bytes: &[u8]) {
-    let mut digits = [0u8; 512];
-    let e = survey_digits::put_hex(Encoder::new(), &mut digits, bytes);
-    text(b" ");
-    text(hns_encoding::first(&digits, e.position));
-}
-
 fn refused(r: Refusal) {
-    text(b": refused");
-    value(r.number);
-    value(r.a);
-    value(r.b);
-    value(r.c);
-    text(b"\n");
+    text(b": ");
+    case_lines::refused(r);
+    end_line();
 }
 
 // A value and the place after it.
@@ -39,11 +24,9 @@ fn number(name: &[u8], answer: Number) {
     text(name);
     match answer {
         Number::Value(v, next) => {
-            text(b":");
-            value(v);
-            text(b" next");
-            value(next as u64);
-            text(b"\n");
+            field(b":", v);
+            field(b" next", next as u64);
+            end_line();
         }
         Number::Refused(r) => refused(r),
     }
@@ -53,11 +36,9 @@ fn slice(name: &[u8], answer: Slice) {
     text(name);
     match answer {
         Slice::Part { start, next } => {
-            text(b": from");
-            value(start as u64);
-            text(b" next");
-            value(next as u64);
-            text(b"\n");
+            field(b": from", start as u64);
+            field(b" next", next as u64);
+            end_line();
         }
         Slice::Refused(r) => refused(r),
     }
@@ -76,9 +57,8 @@ fn put(name: &[u8], out: &[u8], e: Encoder) {
     text(name);
     text(b":");
     hex(out);
-    text(b" next");
-    value(e.position as u64);
-    text(b"\n");
+    field(b" next", e.position as u64);
+    end_line();
 }
 
 fn numbers() {
@@ -242,8 +222,7 @@ fn decoded(name: &[u8], d: Decoded) {
     let answer = d.answer;
     match answer {
         Answer::Done(next) => {
-            text(b": next");
-            value(next as u64);
+            field(b": next", next as u64);
             fields(d.header);
         }
         Answer::Refused(r) => refused(r),
@@ -256,41 +235,23 @@ fn root(name: &[u8], bytes: [u8; 32]) {
 }
 
 fn fields(h: Header) {
-    text(b" nonce");
-    value(h.nonce as u64);
-    text(b" time");
-    value(h.time);
-    text(b" version");
-    value(h.version as u64);
-    text(b" bits");
-    value(h.bits as u64);
+    field(b" nonce", h.nonce as u64);
+    field(b" time", h.time);
+    field(b" version", h.version as u64);
+    field(b" bits", h.bits as u64);
     let witness_root = h.witness_root;
     root(b" witness", witness_root);
     let merkle_root = h.merkle_root;
     root(b" merkle", merkle_root);
-    text(b"\n");
+    end_line();
 }
 
-// The Rust's genesis_header: only time and bits differ from one network to another.
-fn genesis_header(time: u64, bits: u32) -> Header {
-    let witness_root =
-        *b"\x1a\x2c\x60\xb9\x43\x92\x06\x93\x8f\x8d\x78\x23\x78\x2a\xbd\xb8\xb2\x11\xa5\x74\x31\xe9\xc9\xb6\xa6\x36\x5d\x8d\x42\x89\x33\x51";
-    let merkle_root =
-        *b"\x8e\x4c\x97\x56\xfe\xf2\xad\x10\x37\x5f\x36\x0e\x05\x60\xfc\xc7\x58\x7e\xb5\x22\x3d\xdf\x8c\xd7\xc7\xe0\x6e\x60\xa1\x14\x0b\x15";
-    let mut h = Header::default();
-    h.time = time;
-    h.bits = bits;
-    h.witness_root = witness_root;
-    h.merkle_root = merkle_root;
-    h
-}
-
-fn genesis(name: &[u8], time: u64, bits: u32) {
-    let bytes = genesis_header(time, bits).encode();
+fn genesis(name: &[u8], header: Header) {
+    let bytes = header.encode();
     text(name);
     text(b":");
     hex(&bytes);
-    text(b"\n");
+    end_line();
     decoded(name, Header::decode(&bytes));
 }
 
@@ -310,7 +271,7 @@ fn headers_at_places(bytes: &[u8]) {
     decoded(b"header at 4 of 00 to ef", d);
     text(b"header at 4 of 00 to ef, encoded:");
     hex(&again);
-    text(b"\n");
+    end_line();
     decoded(
         b"header at 5 of 00 to ef",
         hns_header_consensus::read_header(bytes, 5),
@@ -345,9 +306,9 @@ fn main() {
     finishes();
     puts();
     put_compacts();
-    genesis(b"mainnet", 1_580_745_078, 0x1c00_ffff);
-    genesis(b"testnet", 1_580_745_079, 0x1d00_ffff);
-    genesis(b"regtest", 1_580_745_080, 0x207f_ffff);
-    genesis(b"simnet", 1_580_745_081, 0x207f_ffff);
+    genesis(b"mainnet", genesis_headers::mainnet());
+    genesis(b"testnet", genesis_headers::testnet());
+    genesis(b"regtest", genesis_headers::regtest());
+    genesis(b"simnet", genesis_headers::simnet());
     headers();
 }

@@ -4,6 +4,12 @@
 //
 // 6 is left out: its example lends 16,000,011 bytes, and a program has no memory but its stack of 8 MB (docs/DECISIONS.md, 31).
 // 5 by reading and writing takes 8,000,001 of them.
+use case_lines::end_line;
+use case_lines::field;
+use case_lines::hex;
+use case_lines::number;
+use case_lines::signed;
+use case_lines::text;
 use hns_encoder::Encoder;
 use hns_header_consensus::Answer;
 use hns_header_consensus::Header;
@@ -22,47 +28,17 @@ use hns_refusals::Refusal;
 // One byte more than a payload may have.
 const LONG: usize = 8_000_001;
 
-fn text(t: &[u8]) {
-    io::write_all(1, t);
-}
-
-// A word and a number.
-fn field(name: &[u8], n: u64) {
-    text(name);
-    text(b" ");
-    io::print_decimal(1, n);
-}
-
-fn signed(n: i64) {
-    let bits = hns_p2p_types::signed_bits(n);
-    if bits < 9_223_372_036_854_775_808 {
-        field(b"", bits);
-    } else {
-        text(b" -");
-        io::print_decimal(1, std::num::wrapping_sub_u64(0, bits));
-    }
-}
-
-fn hex(bytes: &[u8]) {
-    let mut digits = [0u8; 2_000];
-    let e = survey_digits::put_hex(Encoder::new(), &mut digits, bytes);
-    text(b" ");
-    text(hns_encoding::first(&digits, e.position));
-}
-
-fn refused(refusal: Refusal) {
-    field(b" refused", refusal.number);
-    field(b"", refusal.a);
-    field(b"", refusal.b);
-    field(b"", refusal.c);
-}
-
 fn version(no_relay: bool) {
     if no_relay {
         text(b" true");
     } else {
         text(b" false");
     }
+}
+
+fn refused(refusal: Refusal) {
+    text(b" ");
+    case_lines::refused(refusal);
 }
 
 // What an example is about: the flag of a version, a fee, else whether the payload reads.
@@ -80,7 +56,7 @@ fn read(name: &[u8], packet_type: u8, payload: &[u8]) {
     let packet = hns_p2p_packet::read_packet(packet_type, payload, &mut agent);
     text(name);
     show(packet);
-    text(b"\n");
+    end_line();
 }
 
 fn item(name: &[u8], packet_type: u8, payload: &[u8], place: usize) {
@@ -90,7 +66,7 @@ fn item(name: &[u8], packet_type: u8, payload: &[u8], place: usize) {
         Item::Refused(refusal) => refused(refusal),
         _ => text(b" another item"),
     }
-    text(b"\n");
+    end_line();
 }
 
 fn prefix(name: &[u8], input: &[u8]) {
@@ -100,7 +76,7 @@ fn prefix(name: &[u8], input: &[u8]) {
         Prefix::Refused(refusal) => refused(refusal),
         _ => text(b" a frame"),
     }
-    text(b"\n");
+    end_line();
 }
 
 fn exact(name: &[u8], input: &[u8]) {
@@ -109,7 +85,7 @@ fn exact(name: &[u8], input: &[u8]) {
         Exact::Refused(refusal) => refused(refusal),
         _ => text(b" a frame"),
     }
-    text(b"\n");
+    end_line();
 }
 
 fn decoded(name: &[u8], bytes: &[u8]) {
@@ -120,7 +96,7 @@ fn decoded(name: &[u8], bytes: &[u8]) {
         Answer::Refused(refusal) => refused(refusal),
         _ => text(b" a header"),
     }
-    text(b"\n");
+    end_line();
 }
 
 fn pushed(answer: Pushed) {
@@ -147,7 +123,7 @@ fn push(name: &[u8], store: &mut [u8], held: usize, input: &[u8], output: &mut [
     pushed(hns_p2p_frame::push(NetworkMagic::Mainnet, store, held, input, output));
     text(b" output");
     hex(output);
-    text(b"\n");
+    end_line();
 }
 
 fn wrote(name: &[u8], answer: Encoded, out: &[u8]) {
@@ -156,7 +132,7 @@ fn wrote(name: &[u8], answer: Encoded, out: &[u8]) {
         Encoded::Refused(refusal) => refused(refusal),
         Encoded::Written(n) => hex(hns_encoding::first(out, n)),
     }
-    text(b"\n");
+    end_line();
 }
 
 fn refusals_1_to_3() {
@@ -310,11 +286,11 @@ fn indexes(name: &[u8], payload: &[u8]) {
     let mut out = [0u64; 3];
     text(name);
     if let Stored::Count(_) = hns_p2p_indexes::indexes(payload, &mut out) {
-        field(b"", out[0]);
-        field(b"", out[1]);
-        field(b"", out[2]);
+        number(out[0]);
+        number(out[1]);
+        number(out[2]);
     }
-    text(b"\n");
+    end_line();
 }
 
 fn differences(name: &[u8], bytes: &[u8]) {
@@ -364,20 +340,6 @@ fn worked_relay() {
     relay(b"no-relay 02 read:", 2);
 }
 
-// The Rust's genesis_header: only time and bits differ from one network to another.
-fn genesis_header(time: u64, bits: u32) -> Header {
-    let witness_root =
-        *b"\x1a\x2c\x60\xb9\x43\x92\x06\x93\x8f\x8d\x78\x23\x78\x2a\xbd\xb8\xb2\x11\xa5\x74\x31\xe9\xc9\xb6\xa6\x36\x5d\x8d\x42\x89\x33\x51";
-    let merkle_root =
-        *b"\x8e\x4c\x97\x56\xfe\xf2\xad\x10\x37\x5f\x36\x0e\x05\x60\xfc\xc7\x58\x7e\xb5\x22\x3d\xdf\x8c\xd7\xc7\xe0\x6e\x60\xa1\x14\x0b\x15";
-    let mut h = Header::default();
-    h.time = time;
-    h.bits = bits;
-    h.witness_root = witness_root;
-    h.merkle_root = merkle_root;
-    h
-}
-
 // A header of the packet, by its place in the list: its bytes as they read, and are encoded again.
 fn header(name: &[u8], payload: &[u8], place: usize) {
     text(name);
@@ -388,7 +350,7 @@ fn header(name: &[u8], payload: &[u8], place: usize) {
         field(b" at", at as u64);
         hex(&bytes);
     }
-    text(b"\n");
+    end_line();
 }
 
 fn genesis_packet(headers: &[u8]) {
@@ -403,10 +365,10 @@ fn genesis_packet(headers: &[u8]) {
 
 fn genesis() {
     let mut headers = [0u8; 944];
-    let e = genesis_header(1_580_745_078, 0x1c00_ffff).encode_to(Encoder::new(), &mut headers);
-    let e = genesis_header(1_580_745_079, 0x1d00_ffff).encode_to(e, &mut headers);
-    let e = genesis_header(1_580_745_080, 0x207f_ffff).encode_to(e, &mut headers);
-    genesis_header(1_580_745_081, 0x207f_ffff).encode_to(e, &mut headers);
+    let e = genesis_headers::mainnet().encode_to(Encoder::new(), &mut headers);
+    let e = genesis_headers::testnet().encode_to(e, &mut headers);
+    let e = genesis_headers::regtest().encode_to(e, &mut headers);
+    genesis_headers::simnet().encode_to(e, &mut headers);
     genesis_packet(&headers);
 }
 

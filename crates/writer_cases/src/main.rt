@@ -4,11 +4,15 @@
 // A case is which writer, the output's length and how many zero bytes follow the case's own (a byte, then 8 bytes each); then
 // the arguments, those of a fixed size first, and last the text, list or bytes, to which the zeros belong. The output has a
 // pattern before the call. After an answer comes what was written, and how many of the other bytes still have the pattern.
+use case_lines::field;
+use case_lines::hex;
+use case_lines::refused;
+use case_lines::text;
 use hns_encoder::Encoder;
 use hns_p2p_block_puts::AddressFields;
 use hns_p2p_block_puts::VersionFields;
+use hns_p2p_fields::from_place;
 use hns_p2p_frame::Encoded;
-use hns_refusals::Refusal;
 ghost use Prim.Native.Nat.{_≤_};
 ghost use lib.ListN.{length};
 
@@ -23,34 +27,10 @@ const NUMBERS: usize = 16_700;
 // Bytes that are printed whole.
 const WHOLE: usize = 400;
 
-fn text(t: &[u8]) {
-    io::write_all(1, t);
-}
-
-fn number(n: u64) {
-    text(b" ");
-    io::print_decimal(1, n);
-}
-
-fn hex(bytes: &[u8]) {
-    let mut digits = [0u8; 800];
-    let e = survey_digits::put_hex(Encoder::new(), &mut digits, bytes);
-    text(b" ");
-    text(hns_encoding::first(&digits, e.position));
-}
-
 fn wide(byte: u8) -> u64
     ensures { λ r. ⌜ r ≤ 255 ⌝ }
 {
     byte as u64
-}
-
-// The bytes after the first n.
-fn after(bytes: &[u8], n: usize) -> &[u8] {
-    if bytes.len() < n {
-        return &bytes[..0];
-    }
-    &bytes[n..]
 }
 
 // A number in which each byte and its place count, for bytes that are too many to print.
@@ -66,25 +46,15 @@ fn sum(bytes: &[u8]) -> u64 {
 
 fn written(bytes: &[u8]) {
     let n = bytes.len();
-    text(b"written");
-    number(n as u64);
+    field(b"written", n as u64);
     if WHOLE < n {
         hex(hns_encoding::first(bytes, 64));
         text(b" ..");
-        hex(after(bytes, n - 8));
-        text(b" sum");
-        number(sum(bytes));
+        hex(from_place(bytes, n - 8));
+        field(b" sum", sum(bytes));
     } else if 0 < n {
         hex(bytes);
     }
-}
-
-fn refused(refusal: Refusal) {
-    text(b"refused");
-    number(refusal.number);
-    number(refusal.a);
-    number(refusal.b);
-    number(refusal.c);
 }
 
 // The byte that stands at a place of the output before a call: not the same everywhere, so that a byte that moved shows.
@@ -129,24 +99,23 @@ fn show(answer: Encoded, out: &[u8]) {
             0
         }
     };
-    text(b" kept");
-    number(kept(out, from));
+    field(b" kept", kept(out, from));
 }
 
 fn ip_at(fields: &[u8], at: usize) -> [u8; 16] {
     let mut ip = [0u8; 16];
-    Encoder::new().put_bytes(&mut ip, after(fields, at));
+    Encoder::new().put_bytes(&mut ip, from_place(fields, at));
     ip
 }
 
 fn key_at(fields: &[u8], at: usize) -> [u8; 33] {
     let mut key = [0u8; 33];
-    Encoder::new().put_bytes(&mut key, after(fields, at));
+    Encoder::new().put_bytes(&mut key, from_place(fields, at));
     key
 }
 
 fn remote_at(fields: &[u8], at: usize) -> AddressFields {
-    let there = after(fields, at);
+    let there = from_place(fields, at);
     let ip = ip_at(there, 16);
     let key = key_at(there, 34);
     AddressFields {
@@ -169,12 +138,12 @@ fn version(fields: &[u8], out: &mut [u8]) -> Encoded {
         height: hns_encoding::u32_at(fields, 95),
         no_relay: hns_encoding::u8_at(fields, 99) == 1,
     };
-    hns_p2p_writer::write_version(given, after(fields, 100), out)
+    hns_p2p_writer::write_version(given, from_place(fields, 100), out)
 }
 
 fn locator(fields: &[u8], out: &mut [u8]) -> Encoded {
     let stop = hns_encoder::array32_at(fields, 0);
-    hns_p2p_writer::write_locator(after(fields, 32), stop, out)
+    hns_p2p_writer::write_locator(from_place(fields, 32), stop, out)
 }
 
 fn reject(fields: &[u8], out: &mut [u8]) -> Encoded {
@@ -182,17 +151,7 @@ fn reject(fields: &[u8], out: &mut [u8]) -> Encoded {
     let code = hns_encoding::u8_at(fields, 1);
     let present = hns_encoding::u8_at(fields, 2) == 1;
     let hash = hns_encoder::array32_at(fields, 3);
-    hns_p2p_writer::write_reject(message, code, after(fields, 35), present, hash, out)
-}
-
-// The number that two's complement has as these bits.
-fn signed(bits: u64) -> i64 {
-    if bits < 9_223_372_036_854_775_808 {
-        bits as i64
-    } else {
-        let below = (18_446_744_073_709_551_615 - bits) as i64;
-        -1 - below
-    }
+    hns_p2p_writer::write_reject(message, code, from_place(fields, 35), present, hash, out)
 }
 
 fn index_at(list: &[u8], at: usize, width: usize) -> u64 {
@@ -222,7 +181,7 @@ fn load(list: &[u8], width: usize, numbers: &mut [u64]) -> usize
 
 fn getblocktxn(fields: &[u8], width: usize, out: &mut [u8]) -> Encoded {
     let mut numbers = [0u64; NUMBERS];
-    let n = load(after(fields, 32), width, &mut numbers);
+    let n = load(from_place(fields, 32), width, &mut numbers);
     let hash = hns_encoder::array32_at(fields, 0);
     hns_p2p_writer::write_getblocktxn(hash, &numbers[..n], out)
 }
@@ -244,7 +203,7 @@ fn write(asked: u8, fields: &[u8], out: &mut [u8]) -> Encoded {
         5 => locator(fields, out),
         6 => hns_p2p_writer::write_headers(fields, out),
         7 => reject(fields, out),
-        8 => hns_p2p_writer::write_feefilter(signed(first), out),
+        8 => hns_p2p_writer::write_feefilter(hns_p2p_blocks::signed_of(first), out),
         9 => {
             let mode = hns_encoding::u8_at(fields, 0);
             hns_p2p_writer::write_sendcmpct(mode, hns_encoding::u64_at(fields, 1), out)
@@ -275,9 +234,8 @@ fn lengthen(case: &mut [u8], n: usize, zeros: usize) -> usize {
 fn call(case: &[u8], out: &mut [u8]) {
     let asked = hns_encoding::u8_at(case, 0);
     fill(out);
-    let answer = write(asked, after(case, FRONT), out);
+    let answer = write(asked, from_place(case, FRONT), out);
     show(answer, out);
-    text(b"\n");
 }
 
 fn answer(case: &mut [u8], n: usize, out: &mut [u8]) {
@@ -290,53 +248,18 @@ fn answer(case: &mut [u8], n: usize, out: &mut [u8]) {
     }
 }
 
-// A hexadecimal digit after the ones before it: two make a byte.
-fn take_digit(case: &mut [u8], n: usize, digit: u8) {
-    let value = (digit % 16 + digit / 58 * 9) % 16;
-    let i = n / 2;
-    if i < case.len() {
-        case[i] = case[i] % 16 * 16 + value;
-    }
-}
-
-// Takes a byte of a line after n digits, and answers how many there are then: no line has more than there is room for.
-fn take(case: &mut [u8], n: usize, byte: u8, out: &mut [u8]) -> usize {
-    if byte == 10 {
-        answer(case, n / 2, out);
-        return 0;
-    }
-    take_digit(case, n, byte);
-    if n < ROOM * 2 { n + 1 } else { n }
-}
-
-// The lines of a part of the input: n digits of a line came before it, and how many stand after it.
-fn answers(lines: &[u8], case: &mut [u8], n: usize, out: &mut [u8]) -> usize {
-    let mut digits = n;
-    let mut i: usize = 0;
-    while i < lines.len() {
-        digits = take(case, digits, lines[i], out);
-        i += 1;
-    }
-    digits
-}
-
-// At most 100 parts of the input, which is far more than the file has.
-fn run(lines: &mut [u8], case: &mut [u8], out: &mut [u8]) {
-    let mut digits: usize = 0;
-    let mut parts: usize = 100;
-    while 0 < parts {
-        let size = io::read_full(0, lines);
-        if size == 0 {
-            return;
-        }
-        digits = answers(hns_encoding::first(lines, size), case, digits, out);
-        parts -= 1;
+fn run(buffer: &mut [u8], case: &mut [u8], out: &mut [u8]) {
+    let mut lines = case_input::first_case(buffer, case);
+    while 0 < lines.left {
+        answer(case, lines.size, out);
+        case_lines::end_line();
+        lines = case_input::next_case(lines, buffer, case);
     }
 }
 
 fn main() {
-    let mut lines = io::large_buffer();
+    let mut buffer = io::large_buffer();
     let mut case = [0u8; ROOM];
     let mut out = [0u8; ROOM];
-    run(&mut lines, &mut case, &mut out);
+    run(&mut buffer, &mut case, &mut out);
 }

@@ -5,6 +5,12 @@ use borrow.Author.Needs.{needs}
 use Rattle.rust_writer_answers.proofs.ask.Statement.{statement}
 use Rattle.rust_writer_answers.proofs.ask.Tie as tie
 
+cast-print-decimal : tie.Need-cast-print-decimal
+cast-print-decimal c = search needs
+
+print-decimal-requires : tie.Need-print-decimal-requires
+print-decimal-requires c κs = search needs
+
 array-borrow-prefix-out : tie.Need-array-borrow-prefix-out
 array-borrow-prefix-out c = search needs
 
@@ -23,4 +29,4 @@ returns-2 c = search needs
 pub ask-spec : {M : Type 1} → statement M
 ask-spec =
     tie.close
-    (tie.spec array-borrow-prefix-out slice-aggregate-ask-lent ask-lent-requires returns returns-2)
+    (tie.spec cast-print-decimal print-decimal-requires array-borrow-prefix-out slice-aggregate-ask-lent ask-lent-requires returns returns-2)

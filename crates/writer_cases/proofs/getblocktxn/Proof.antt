@@ -5,8 +5,8 @@ use borrow.Author.Needs.{needs}
 use Rattle.writer_cases.proofs.getblocktxn.Statement.{statement}
 use Rattle.writer_cases.proofs.getblocktxn.Tie as tie
 
-after-requires : tie.Need-after-requires
-after-requires c κs = search needs
+from-place-requires : tie.Need-from-place-requires
+from-place-requires c κs = search needs
 
 slice-aggregate-load : tie.Need-slice-aggregate-load
 slice-aggregate-load c = search needs
@@ -36,7 +36,7 @@ pub getblocktxn-spec : {M : Type 1} → statement M
 getblocktxn-spec =
     tie.close
     (tie.spec
-    after-requires
+    from-place-requires
     slice-aggregate-load
     load-requires
     array32-at-requires
