@@ -262,9 +262,11 @@ fn read_text(
     let mut text = Vec::with_capacity(payload.len().min(MAX_USER_AGENT_SIZE));
     let to = text.spare_capacity_mut();
     let row = read_row(packet_type.as_u8(), payload, to, &mut row)?;
-    // SAFETY: an accepted call has stored every byte of the text whose length it answers.
-    unsafe { text.set_len(row[length] as usize) };
-    let text = String::from_utf8(text).expect("seven bits are UTF-8");
+    // SAFETY: an accepted call has stored every byte of the text whose length it answers, each below 128.
+    let text = unsafe {
+        text.set_len(row[length] as usize);
+        String::from_utf8_unchecked(text)
+    };
     Ok(make(Answer { payload, row }, text))
 }
 

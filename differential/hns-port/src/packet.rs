@@ -17,13 +17,14 @@ fn stored(
     let row = unsafe { row.assume_init_ref() };
     match row[0] {
         0 => Ok(row),
-        number => Err(Refusal {
-            number,
-            a: row[1],
-            b: row[2],
-            c: row[3],
-        }),
+        _ => Err(refusal(row)),
     }
+}
+
+#[cold]
+fn refusal(row: &PacketRow) -> Refusal {
+    let [number, a, b, c, ..] = *row;
+    Refusal { number, a, b, c }
 }
 
 #[inline]
