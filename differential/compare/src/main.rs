@@ -1,9 +1,9 @@
 //! The port beside the published Rust: the same inputs, every answer compared.
 //!
-//! usage: compare [--short] [--count N] [--seed S]
+//! usage: compare [--short | --random] [--count N] [--seed S]
 //!
 //! Random comparisons follow the exhaustive ones and the large limits: ten million, with `--short`
-//! a hundred thousand. A mismatch prints both answers and the smallest input found, and fails.
+//! a hundred thousand. With `--random` they stand alone. A mismatch prints both answers and the smallest input found, and fails.
 
 use std::collections::BTreeMap;
 use std::process::ExitCode;
@@ -16,13 +16,14 @@ use compare::{check, exhaustive, generate, limits, rust, shrink};
 
 struct Options {
     short: bool,
+    random: bool,
     count: u64,
     seed: u64,
 }
 
 fn main() -> ExitCode {
     let Some(options) = options() else {
-        eprintln!("usage: compare [--short] [--count N] [--seed S]");
+        eprintln!("usage: compare [--short | --random] [--count N] [--seed S]");
         return ExitCode::from(2);
     };
     println!("{}", hns_port::LIBRARIES);
@@ -43,10 +44,11 @@ fn main() -> ExitCode {
 
 fn options() -> Option<Options> {
     let mut words = std::env::args().skip(1);
-    let (mut short, mut count, mut seed) = (false, None, None);
+    let (mut short, mut random, mut count, mut seed) = (false, false, None, None);
     while let Some(word) = words.next() {
         match word.as_str() {
             "--short" => short = true,
+            "--random" => random = true,
             "--count" => count = Some(words.next()?.parse().ok()?),
             "--seed" => seed = Some(words.next()?.parse().ok()?),
             _ => return None,
@@ -56,6 +58,7 @@ fn options() -> Option<Options> {
     let now = SystemTime::now().duration_since(UNIX_EPOCH);
     Some(Options {
         short,
+        random,
         count: count.unwrap_or(usual),
         seed: seed.unwrap_or(now.map_or(0, |time| time.as_nanos() as u64)),
     })
@@ -63,11 +66,13 @@ fn options() -> Option<Options> {
 
 fn run_all(options: &Options, run: &mut Run) {
     let mut rng = Rng::new(options.seed);
-    run.part("exhaustive");
-    exhaustive::all(options.short, &mut |case| run.case(case));
-    run.part("limits");
-    let networks = if options.short { 1 } else { 4 };
-    limits::all(&mut rng, networks, &mut |case| run.case(case));
+    if !options.random {
+        run.part("exhaustive");
+        exhaustive::all(options.short, &mut |case| run.case(case));
+        run.part("limits");
+        let networks = if options.short { 1 } else { 4 };
+        limits::all(&mut rng, networks, &mut |case| run.case(case));
+    }
     run.part("random");
     let shares: u64 = Kind::ALL.iter().map(|kind| kind.share()).sum();
     for kind in Kind::ALL {

@@ -198,7 +198,7 @@ impl Packet {
             | Self::GetAddr
             | Self::SendHeaders
             | Self::Mempool
-            | Self::FilterClear => written(0, |out| write_empty(out)),
+            | Self::FilterClear => written(0, write_empty),
             Self::Ping(nonce) | Self::Pong(nonce) => {
                 written(8, |out| write_nonce(u64::from_le_bytes(*nonce), out))
             }
