@@ -20,6 +20,7 @@ def put(folder, name, lines, check):
 
 def put_cases(folder, lines, answers, digits, letters, check):
     """A case a line of `stdin`, of so many digits, and an answer a line of `stdout`, of these letters."""
+    assert len(lines) == len(answers)
     for line, got in zip(lines, answers):
         assert re.fullmatch(r"[0-9a-f]{%d,%d}" % digits, line)
         assert re.fullmatch(r"[%s]+" % letters, got) and "  " not in got and got == got.strip()

@@ -11,7 +11,9 @@
  * What the caller must see to, since no proof reaches beyond the call:
  *
  *   - a slice is a pointer that is not null, also for no bytes, and a count of things that are all
- *     there, fewer than 2^63 bytes together, and may be written where the pointer is not to const;
+ *     there, fewer than 2^63 bytes together, and may be written where the pointer is not to const
+ *     (what only a call writes need not be set before: rows, and every `out`, `text`, `values`,
+ *     `hashes` to read and `output`);
  *   - numbers (uint64_t) are aligned as such;
  *   - a slice that may be written overlaps no other slice of the call;
  *   - hns_rewrite takes about 134,000 bytes of stack, the others less than 1,000.

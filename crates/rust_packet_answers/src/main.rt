@@ -6,7 +6,8 @@
 // and how many there are. So a short line has a payload of megabytes.
 //
 // An answer is the kind, and 0 with what was answered, or the refusal's number and values; then the lent output. For a
-// place it has the bytes that stand there: the Rust has no places.
+// place it has the bytes that stand there, since the Rust has no places; but for where a list of addresses or differences
+// begins, and among the numbers of all items.
 use case_input::Asked;
 use hns_encoder::Encoder;
 use hns_p2p_fields::from_place;

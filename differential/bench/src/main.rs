@@ -14,6 +14,7 @@ mod inputs;
 mod packets;
 mod rows;
 
+use std::process::ExitCode;
 use std::time::Instant;
 
 use inputs::Inputs;
@@ -41,13 +42,11 @@ struct Measured {
     each: Option<f64>,
 }
 
-fn main() {
-    let words: Vec<String> = std::env::args().collect();
-    let option = |flag: &str, otherwise| {
-        let at = words.iter().position(|word| word == flag);
-        at.map_or(otherwise, |at| words[at + 1].parse().expect("a number"))
+fn main() -> ExitCode {
+    let Some((runs, tables)) = options() else {
+        eprintln!("usage: bench [--runs N] [--tables N]");
+        return ExitCode::from(2);
     };
-    let (runs, tables) = (option("--runs", 21), option("--tables", 1));
     let (inputs, buffers) = (Inputs::new(), Buffers::new());
     let (samples, alike) = (packets::samples(), packets::alike());
     let taken: Vec<Table> = (0..tables)
@@ -56,6 +55,21 @@ fn main() {
     println!("{}", machine());
     println!("medians of {runs} runs, in {tables} tables; ratios of time, below 1 is faster");
     show(&taken);
+    ExitCode::SUCCESS
+}
+
+fn options() -> Option<(usize, usize)> {
+    let mut words = std::env::args().skip(1);
+    let (mut runs, mut tables) = (21, 1);
+    while let Some(word) = words.next() {
+        let number = words.next()?.parse().ok()?;
+        match word.as_str() {
+            "--runs" => runs = number,
+            "--tables" => tables = number,
+            _ => return None,
+        }
+    }
+    (runs > 0 && tables > 0).then_some((runs, tables))
 }
 
 fn table(

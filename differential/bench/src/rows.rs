@@ -60,15 +60,19 @@ pub const INLINED: [&str; 4] = [
     "put compact sizes, Rust inlined",
 ];
 
-pub fn row<'a>(name: &'static str, inputs: &'a Inputs, buffers: &'a Buffers) -> Row<'a> {
-    let bytes = match name {
+fn input<'a>(name: &str, inputs: &'a Inputs) -> &'a [u8] {
+    match name {
         _ if name.contains("30 bytes") || name.starts_with("write") => &inputs.small,
         _ if name.contains("mixed") => &inputs.mixed,
         _ if name.contains("8,000,000") => &inputs.large,
         _ if name.contains("of one byte") => &inputs.short,
         _ if name.contains("compact") => &inputs.compact,
         _ => &inputs.headers,
-    };
+    }
+}
+
+pub fn row<'a>(name: &'static str, inputs: &'a Inputs, buffers: &'a Buffers) -> Row<'a> {
+    let bytes = input(name, inputs);
     let chunk = match name {
         _ if name.ends_with("4,096") => 4096,
         _ if name.ends_with("65,536") => 65_536,

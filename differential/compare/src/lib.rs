@@ -33,7 +33,7 @@ use case::{Case, Kind, Verdict};
 pub fn check(case: &Case) -> Verdict {
     catch_unwind(|| ask(case)).unwrap_or_else(|panic| Verdict::Differs {
         port: format!("a panic of either side: {}", message(&*panic)),
-        rust: "the same".to_owned(),
+        rust: "no answer to compare".to_owned(),
     })
 }
 
@@ -67,6 +67,8 @@ fn ask(case: &Case) -> Verdict {
         Kind::OwnedStream => owned::stream(case),
         Kind::Card => card::check(case),
         Kind::Row => rows::check(case),
-        _ => reads::check(case),
+        Kind::ReadU8 | Kind::ReadU16 | Kind::ReadU32 | Kind::ReadU64 => reads::check(case),
+        Kind::CompactSize | Kind::CompactUsize => reads::check(case),
+        Kind::Slice | Kind::Bounded | Kind::Varbytes | Kind::Finish => reads::check(case),
     }
 }

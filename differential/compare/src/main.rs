@@ -3,7 +3,8 @@
 //! usage: compare [--short | --random] [--count N] [--seed S]
 //!
 //! Random comparisons follow the exhaustive ones and the large limits: ten million, with `--short`
-//! a hundred thousand. With `--random` they stand alone. A mismatch prints both answers and the smallest input found, and fails.
+//! a hundred thousand. With `--random` they stand alone. A mismatch prints both answers and the
+//! smallest input found, and fails.
 
 use std::collections::BTreeMap;
 use std::process::ExitCode;
@@ -53,6 +54,9 @@ fn options() -> Option<Options> {
             "--seed" => seed = Some(words.next()?.parse().ok()?),
             _ => return None,
         }
+    }
+    if short && random {
+        return None;
     }
     let usual = if short { 100_000 } else { 10_000_000 };
     let now = SystemTime::now().duration_since(UNIX_EPOCH);

@@ -36,10 +36,12 @@ macro_rules! read {
                 Kind::CompactUsize => {
                     Value::Number(from.read_compact_usize(a $(, $text)?)? as u64)
                 }
+                Kind::Slice if a == 3 => Value::Bytes(from.read_array::<3>()?.to_vec().into()),
                 Kind::Slice => Value::Bytes(from.read_slice(a)?.into()),
                 Kind::Bounded => Value::Bytes(from.$bounded(a, b)?.into()),
                 Kind::Varbytes => Value::Bytes(from.read_varbytes(a $(, $text)?)?.into()),
-                _ => from.finish().map(|()| Value::Done)?,
+                Kind::Finish => from.finish().map(|()| Value::Done)?,
+                _ => unreachable!("no read"),
             };
             Ok((value, from.position()))
         }

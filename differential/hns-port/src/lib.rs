@@ -30,7 +30,9 @@
 //! # Why every function is safe
 //!
 //! The library asks nothing of its callers but what a Rust slice already is: a pointer that is not
-//! null, a count, and no overlap of what is lent to be changed. So there is nothing left to test here.
+//! null, a count, and no overlap of what is lent to be changed. Room for a vector is lent before it
+//! holds anything; that an accepted call has stored all that it says, and a text below 128, is proved.
+//! So there is nothing left to test here.
 
 #![warn(missing_docs)]
 
@@ -101,7 +103,8 @@ fn row<T>(call: impl FnOnce(*mut u64, usize), says: impl FnOnce(&Row) -> T) -> R
 ///
 /// # Safety
 ///
-/// The places are those of a slice of bytes that may be written.
+/// The places are those of bytes that `self` owns or alone borrows, so that they may be written while
+/// `self` is borrowed, and are no part of another slice of the call.
 pub unsafe trait Output {
     /// The first place, and how many there are.
     fn places(&mut self) -> (*mut u8, usize);

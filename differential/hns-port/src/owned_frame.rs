@@ -1,7 +1,10 @@
 //! The frame and the stream with buffers of their own.
 
 use crate::owned_packet::written;
-use crate::{FRAME_HEADER_SIZE, NetworkMagic, Packet, PacketType, Refusal, lent, write_raw};
+use crate::{
+    FRAME_HEADER_SIZE, MAX_FRAME_PAYLOAD_SIZE, NetworkMagic, Packet, PacketType, Refusal, lent,
+    write_raw,
+};
 
 /// A frame.
 ///
@@ -50,9 +53,9 @@ impl Frame {
     /// Writes the frame.
     pub fn encode(&self, network: NetworkMagic) -> Result<Vec<u8>, Refusal> {
         let (packet_type, payload) = (self.packet_type.as_u8(), &self.payload[..]);
-        written(FRAME_HEADER_SIZE + payload.len(), |out| {
-            lent::encode(network, packet_type, payload, out)
-        })
+        // A longer payload is refused, and needs no room.
+        let most = FRAME_HEADER_SIZE + payload.len().min(MAX_FRAME_PAYLOAD_SIZE);
+        written(most, |out| lent::encode(network, packet_type, payload, out))
     }
 
     /// Reads bytes that are one frame.

@@ -8,11 +8,11 @@ use crate::types::{array, ip};
 use crate::writers::VersionFields;
 use crate::{
     BlockHash, CompactBlockRequest, Encoder, GetProofPacket, HEADER_SIZE, Header, Inventory,
-    InventoryKind, LocatorPacket, MAX_FRAME_PAYLOAD_SIZE, MAX_USER_AGENT_SIZE, NET_ADDRESS_SIZE,
-    NameHash, NetAddress, PacketRow, PacketType, Refusal, RejectPacket, TreeRoot, VersionPacket,
-    write_addr, write_empty, write_feefilter, write_getblocktxn, write_getproof, write_headers,
-    write_inventory, write_locator, write_nonce, write_raw, write_reject, write_sendcmpct,
-    write_version,
+    InventoryKind, LocatorPacket, MAX_FRAME_PAYLOAD_SIZE, MAX_REJECT_REASON_SIZE,
+    MAX_USER_AGENT_SIZE, NET_ADDRESS_SIZE, NameHash, NetAddress, PacketRow, PacketType, Refusal,
+    RejectPacket, TreeRoot, VersionPacket, write_addr, write_empty, write_feefilter,
+    write_getblocktxn, write_getproof, write_headers, write_inventory, write_locator, write_nonce,
+    write_raw, write_reject, write_sendcmpct, write_version,
 };
 
 /// A packet. Blocks, transactions and proofs are carried as the bytes that they were sent as.
@@ -182,10 +182,6 @@ impl Packet {
             PacketType::Proof => read(|answer| Self::Proof(answer.raw())),
             PacketType::Claim => read(|answer| Self::Claim(answer.raw())),
             PacketType::Airdrop => read(|answer| Self::Airdrop(answer.raw())),
-            // The number decides, also where it is that of a type with a name.
-            PacketType::Unknown(number @ 0..30) => {
-                Self::decode(PacketType::from_u8(number), payload)
-            }
             PacketType::Unknown(number) => unknown(number, payload),
         }
     }
@@ -214,10 +210,7 @@ impl Packet {
                 written(9, |out| write_sendcmpct(*mode, *version, out))
             }
             Self::GetBlockTxn(request) => encode_getblocktxn(request),
-            Self::GetProof(packet) => {
-                let (root, key) = (packet.root.as_bytes(), packet.key.as_bytes());
-                written(64, |out| write_getproof(root, key, out))
-            }
+            Self::GetProof(packet) => encode_getproof(packet),
             Self::Block(payload)
             | Self::Tx(payload)
             | Self::FilterLoad(payload)
@@ -229,7 +222,7 @@ impl Packet {
             | Self::Claim(payload)
             | Self::Airdrop(payload)
             | Self::Unknown { payload, .. } => {
-                written(payload.len(), |out| write_raw(payload, out))
+                written(most(payload.len(), 1, 0), |out| write_raw(payload, out))
             }
         }
     }
@@ -296,7 +289,11 @@ fn request(payload: &[u8]) -> Result<CompactBlockRequest, Refusal> {
     })
 }
 
+/// The number decides, also where it is that of a type with a name.
 fn unknown(packet_type: u8, payload: &[u8]) -> Result<Packet, Refusal> {
+    if let 0..30 = packet_type {
+        return Packet::decode(PacketType::from_u8(packet_type), payload);
+    }
     read(PacketType::Unknown(packet_type), payload, |answer| {
         Packet::Unknown {
             packet_type,
@@ -418,7 +415,7 @@ pub(crate) fn written(
     Ok(out)
 }
 
-/// Room for a payload with a count: a list that is refused for its length needs none.
+/// Room for items of a width and what else there is: what is refused for its length needs none.
 fn most(count: usize, item: usize, other: usize) -> usize {
     count
         .saturating_mul(item)
@@ -470,15 +467,22 @@ fn encode_version(packet: &VersionPacket) -> Result<Vec<u8>, Refusal> {
         no_relay: packet.no_relay,
     };
     let agent = packet.agent.as_bytes();
-    written(122 + agent.len(), |out| write_version(&fields, agent, out))
+    written(122 + agent.len().min(MAX_USER_AGENT_SIZE), |out| {
+        write_version(&fields, agent, out)
+    })
 }
 
 fn encode_reject(packet: &RejectPacket) -> Result<Vec<u8>, Refusal> {
     let (message, reason) = (packet.message.as_u8(), packet.reason.as_bytes());
     let (present, hash) = (packet.hash.is_some(), packet.hash.unwrap_or_default());
-    written(35 + reason.len(), |out| {
+    written(35 + reason.len().min(MAX_REJECT_REASON_SIZE), |out| {
         write_reject(message, packet.code, reason, present, &hash, out)
     })
+}
+
+fn encode_getproof(packet: &GetProofPacket) -> Result<Vec<u8>, Refusal> {
+    let (root, key) = (packet.root.as_bytes(), packet.key.as_bytes());
+    written(64, |out| write_getproof(root, key, out))
 }
 
 fn encode_getblocktxn(request: &CompactBlockRequest) -> Result<Vec<u8>, Refusal> {

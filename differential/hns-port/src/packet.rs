@@ -80,7 +80,7 @@ pub(crate) const fn numbers(indexes: &[usize]) -> &[u64] {
     unsafe { std::slice::from_raw_parts(indexes.as_ptr().cast(), indexes.len()) }
 }
 
-/// The same as a vector. A payload has no more indexes than bytes after its hash and its count.
+/// All indexes of a getblocktxn payload as a vector. A payload has no more indexes than bytes after its hash and its count.
 pub(crate) fn all_indexes(payload: &[u8]) -> Result<Vec<usize>, Refusal> {
     let (bytes, len) = (payload.as_ptr(), payload.len());
     let room = len.saturating_sub(33).min(MAX_COMPACT_BLOCK_TRANSACTIONS);
