@@ -1,4 +1,4 @@
--- What `push` and `settle` owe at each return, on plain lists. Assumes nothing.
+-- What `take_in`, `settle` and `push` owe at each return, on plain lists. Assumes nothing.
 use Prim.Native.Nat.{ℕ, _+_, _-_, _^_, _≤_, _<_}
 use native.Mathlib.Nat.{min-eq-left}
 use native.Mathlib.Omega.{arith}
@@ -8,20 +8,22 @@ use lib.ListN.{length, take, drop, length-append, take-append-drop}
 use lib.Seq.{take-at, drop-at, length-take-le}
 use Rattle.hns_refusals.specs.declared.Refusal.{Refusal}
 use Rattle.hns_refusals.specs.Limits.{maxStream}
-use Rattle.hns_refusals.specs.Refusals.{refusal, streamTooLarge, outputShort, storeShort, heldOver}
+use Rattle.hns_refusals.specs.Refusals.{streamTooLarge, outputShort, storeShort, heldOver}
 use Rattle.hns_encoding.specs.Bytes.{Bytes, part}
 use Rattle.hns_encoding.specs.Put.{splice}
 use Rattle.hns_p2p_frame.specs.declared.NetworkMagic.{NetworkMagic}
+use Rattle.hns_p2p_frame.specs.declared.Intake.{Intake}
+use Rattle.hns_p2p_frame.specs.declared.Intake.the-variants as A
 use Rattle.hns_p2p_frame.specs.declared.Pushed.{Pushed}
 use Rattle.hns_p2p_frame.specs.declared.Pushed.the-variants.{Accepted, Refused}
 use Rattle.hns_p2p_frame.specs.declared.Walk.{Walk}
 use Rattle.hns_p2p_frame.specs.declared.Walk.the-variants as W
 use Rattle.hns_p2p_frame.specs.Frame.{Frame, encodings}
 use Rattle.hns_p2p_frame.specs.Walk.{Walked, stopped, refused, walk}
-use Rattle.hns_p2p_frame.specs.Push.{Result, needed, turnedAway, settled, push}
+use Rattle.hns_p2p_frame.specs.Push.{Result, needed, turnedAway, settled, passing, admitted, push}
 use Rattle.hns_p2p_frame.specs.Helpers.{walkOf}
 use Rattle.hns_p2p_frame.proofs.Walks.{WalkCut, walk-cut}
-use Rattle.hns_p2p_frame.proofs.Tests.{over, large, unstored, no-room, fits, push-is}
+use Rattle.hns_p2p_frame.proofs.Tests.{over, large, unstored, no-room, fits, passing-is, passing-away, passing-taken, passed-is}
 use Rattle.hns_p2p_frame.proofs.Slices.{take-held}
 
 -- what a function ensures that is to give this result
@@ -84,29 +86,46 @@ module _ (net : NetworkMagic) (s : List ℕ) (t : ℕ) (o : List ℕ) (fits : t 
             let r : Accepted n b (t - b) ≡ Accepted (length fs) (length (encodings net fs)) (length rest) = rw (c .count, c .size, d) in
             rw (p, q, y, v) (gives (settled net (stopped fs rest) s t o) (rw (c .is)) r)
 
--- ---- a push
+-- ---- the tests of a push
 
-module _ (net : NetworkMagic) (s : List ℕ) (h : ℕ) (x o : List ℕ) where
-  pub away-18 : {r : Pushed} → length s < h → r ≡ Refused (refusal 18 h 0 0) h → Gives (push net s h x o) r s o
-  away-18 a e = gives (turnedAway (heldOver h) s h o) (push-is net (over a)) e
+module _ (s : List ℕ) (h : ℕ) (x o : List ℕ) where
+  -- what `take_in` owes at each return
+  abbrev TakesIn : Intake → Type 0
+  TakesIn a = a ≡ passing s h x o A.TurnedAway (A.Taken (h + length x))
+
+  pub takes-in-18 : length s < h → {r : Refusal} → r ≡ heldOver h → TakesIn (A.TurnedAway r)
+  takes-in-18 a e = rw e (sym (passing-is (over a)))
 
   module _ (a : h ≤ length s) (sum : h + length x < 2 ^ 64) where
     -- the sum is below 2^64
-    need : (n b : ℕ) → Refused (refusal n (h + length x) b 0) h ≡ Refused (refusal n (needed h x) b 0) h
-    need n b = ap (λ (k : ℕ). Refused (refusal n k b 0) h) (sym (min-eq-left (omega arith)))
+    need : needed h x ≡ h + length x
+    need = min-eq-left (omega arith)
 
-    pub away-6 : {r : Pushed} → maxStream < h + length x → r ≡ Refused (refusal 6 (h + length x) maxStream 0) h → Gives (push net s h x o) r s o
-    away-6 b e = gives (turnedAway (streamTooLarge (needed h x)) s h o) (push-is net (large a b)) (e ∙ need 6 maxStream)
+    pub takes-in-6 : maxStream < h + length x → {r : Refusal} → r ≡ streamTooLarge (h + length x) → TakesIn (A.TurnedAway r)
+    takes-in-6 b e = rw (e, ← need) (sym (passing-is (large a b)))
 
     module _ (b : h + length x ≤ maxStream) where
-      pub away-17 : {r : Pushed} → length s < h + length x → r ≡ Refused (refusal 17 (h + length x) 0 0) h → Gives (push net s h x o) r s o
-      away-17 c e = gives (turnedAway (storeShort (needed h x)) s h o) (push-is net (unstored a b c)) (e ∙ need 17 0)
+      pub takes-in-17 : length s < h + length x → {r : Refusal} → r ≡ storeShort (h + length x) → TakesIn (A.TurnedAway r)
+      takes-in-17 c e = rw (e, ← need) (sym (passing-is (unstored a b c)))
 
       module _ (c : h + length x ≤ length s) where
-        pub away-16 : {r : Pushed} → length o < h + length x → r ≡ Refused (refusal 16 (h + length x) 0 0) h → Gives (push net s h x o) r s o
-        away-16 d e = gives (turnedAway (outputShort (needed h x)) s h o) (push-is net (no-room a b c d)) (e ∙ need 16 0)
+        pub takes-in-16 : length o < h + length x → {r : Refusal} → r ≡ outputShort (h + length x) → TakesIn (A.TurnedAway r)
+        takes-in-16 d e = rw (e, ← need) (sym (passing-is (no-room a b c d)))
 
-        -- s₁ is the store with the input in it
-        pub settles : h + length x ≤ length o → {s₁ : List ℕ} → s₁ ≡ splice s h x → {r : Pushed} {s′ o′ : List ℕ}
-            → Gives (settled net (walk net (take (h + length x) s₁)) s₁ (h + length x) o) r s′ o′ → Gives (push net s h x o) r s′ o′
-        settles d e g = rw (push-is net {s = s} {h = h} {x = x} {o = o} (fits a b c d)) (rw (e, take-held s h x c) at g)
+        pub takes-in-all : h + length x ≤ length o → TakesIn (A.Taken (h + length x))
+        takes-in-all d = sym (passing-is (fits a b c d))
+
+-- ---- a push
+
+module _ (net : NetworkMagic) (s : List ℕ) (h : ℕ) (x o : List ℕ) {a : Intake} (q : a ≡ passing s h x o A.TurnedAway (A.Taken (h + length x))) where
+  pub turned : {r : Refusal} → a ≡ A.TurnedAway r → Gives (push net s h x o) (Refused r h) s o
+  unfolding push admitted
+  turned {r} e = gives (turnedAway r s h o) (passing-away s h x o q e (λ (v : Refusal). turnedAway v s h o) (settled net (walk net (take h s ++ x)) (splice s h x) (h + length x) o)) refl
+
+  -- s₁ is the store with the input in it
+  pub settles : {t : ℕ} → a ≡ A.Taken t → {s₁ : List ℕ} → s₁ ≡ splice s h x → {r : Pushed} {s′ o′ : List ℕ}
+      → Gives (settled net (walk net (take t s₁)) s₁ t o) r s′ o′ → Gives (push net s h x o) r s′ o′
+  unfolding push admitted
+  settles e i g =
+      let p = passing-taken s h x o q e in
+      rw (passed-is (λ (v : Refusal). turnedAway v s h o) (settled net (walk net (take h s ++ x)) (splice s h x) (h + length x) o) (p .1)) (rw (i, p .0, take-held s h x (p .1 .store)) at g)

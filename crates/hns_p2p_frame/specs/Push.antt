@@ -11,6 +11,8 @@ use Rattle.hns_encoding.specs.Put.{splice}
 use Rattle.hns_p2p_frame.specs.declared.NetworkMagic.{NetworkMagic}
 use Rattle.hns_p2p_frame.specs.declared.Pushed.{Pushed}
 use Rattle.hns_p2p_frame.specs.declared.Pushed.the-variants.{Accepted, Refused}
+use Rattle.hns_p2p_frame.specs.declared.Delivered.{Delivered}
+use Rattle.hns_p2p_frame.specs.declared.Delivered.the-variants as D
 use Rattle.hns_p2p_frame.specs.Frame.{encodings}
 use Rattle.hns_p2p_frame.specs.Walk.{Walked, stopped, refused, walk}
 
@@ -39,20 +41,29 @@ settled net (stopped fs rest) s h o =
     }
 settled net (refused r) s h o = record { answer = Refused r h; store = s; output = o }
 
--- the tests before the append, in their order 18, 6, 17, 16, and the result p of a push that meets none
-unfoldable pub admitted : List ℕ → ℕ → List ℕ → List ℕ → Result → Result
-admitted s h x o p =
+-- the tests before the append, in their order 18, 6, 17, 16: `away` of the first that refuses, or p if none does
+unfoldable pub passing : {A : Type 0} → List ℕ → ℕ → List ℕ → List ℕ → (Refusal → A) → A → A
+passing s h x o away p =
     choose (leb h (length s))
     (choose (leb (h + length x) maxStream)
     (choose (leb (h + length x) (length s))
     (choose (leb (h + length x) (length o))
     p
-    (turnedAway (outputShort (needed h x)) s h o))
-    (turnedAway (storeShort (needed h x)) s h o))
-    (turnedAway (streamTooLarge (needed h x)) s h o))
-    (turnedAway (heldOver h) s h o)
+    (away (outputShort (needed h x))))
+    (away (storeShort (needed h x))))
+    (away (streamTooLarge (needed h x))))
+    (away (heldOver h))
+
+-- the result of a push, p where no test turns it away
+unfoldable pub admitted : List ℕ → ℕ → List ℕ → List ℕ → Result → Result
+admitted s h x o p = passing s h x o (λ r. turnedAway r s h o) p
 
 -- A push of the input x, with the output o, to a stream whose store is s and whose held count is h: held bytes and input are walked together.
 unfoldable pub push : NetworkMagic → List ℕ → ℕ → List ℕ → List ℕ → Result
 push net s h x o =
     admitted s h x o (settled net (walk net (take h s ++ x)) (splice s h x) (h + length x) o)
+
+-- the ported push's answer with what it delivered: nothing where it is refused
+unfoldable pub delivered : Pushed → Delivered
+delivered (Accepted frames bytes held) = D.Accepted frames bytes held
+delivered (Refused refusal held) = D.Refused refusal 0 0 held

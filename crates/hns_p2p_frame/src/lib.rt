@@ -94,6 +94,27 @@ pub enum Pushed {
     },
 }
 
+// The same with the frames and bytes delivered beside a refusal too: the answer of a push with a tally.
+pub enum Delivered {
+    Accepted {
+        frames: usize,
+        bytes: usize,
+        held: usize,
+    },
+    Refused {
+        refusal: Refusal,
+        frames: usize,
+        bytes: usize,
+        held: usize,
+    },
+}
+
+// Whether a push is turned away before the append, or how many bytes held and input are together.
+pub enum Intake {
+    TurnedAway(Refusal),
+    Taken(usize),
+}
+
 // The frames that a slice begins with, up to the first that is not all there.
 enum Walk {
     Stopped { frames: usize, bytes: usize },
@@ -298,6 +319,26 @@ fn settle(network: NetworkMagic, store: &mut [u8], total: usize, output: &mut [u
     }
 }
 
+// The tests of every push before it appends its input: 18, 6, 17, 16.
+pub fn take_in(store: &[u8], held: usize, input: &[u8], output: &[u8]) -> Intake
+    ensures { λ r. ⌜ r ≡ Push.passing (now (store .entry)) held (now (input .entry)) (now (output .entry)) Intake.TurnedAway (Intake.Taken (held + length (now (input .entry)))) ⌝ }
+{
+    if store.len() < held {
+        return Intake::TurnedAway(Refusal::held_over(held));
+    }
+    let total = held + input.len();
+    if NetworkMagic::MAX_STREAM_BUFFER_SIZE < total {
+        return Intake::TurnedAway(Refusal::stream_too_large(total));
+    }
+    if store.len() < total {
+        return Intake::TurnedAway(Refusal::store_short(total));
+    }
+    if output.len() < total {
+        return Intake::TurnedAway(Refusal::output_short(total));
+    }
+    Intake::Taken(total)
+}
+
 // Takes input into a stream whose held bytes are the store's first.
 pub fn push(
     network: NetworkMagic,
@@ -310,23 +351,11 @@ pub fn push(
     ensures { λ _. ⌜ now (store .exit) ≡ Push.push network (now (store .entry)) held (now (input .entry)) (now (output .entry)) .store ⌝ }
     ensures { λ _. ⌜ now (output .exit) ≡ Push.push network (now (store .entry)) held (now (input .entry)) (now (output .entry)) .output ⌝ }
 {
-    if store.len() < held {
-        let refusal = Refusal::held_over(held);
-        return Pushed::Refused { refusal, held };
+    match take_in(store, held, input, output) {
+        Intake::TurnedAway(refusal) => Pushed::Refused { refusal, held },
+        Intake::Taken(total) => {
+            Encoder { position: held }.put_bytes(store, input);
+            settle(network, store, total, output)
+        }
     }
-    let total = held + input.len();
-    if NetworkMagic::MAX_STREAM_BUFFER_SIZE < total {
-        let refusal = Refusal::stream_too_large(total);
-        return Pushed::Refused { refusal, held };
-    }
-    if store.len() < total {
-        let refusal = Refusal::store_short(total);
-        return Pushed::Refused { refusal, held };
-    }
-    if output.len() < total {
-        let refusal = Refusal::output_short(total);
-        return Pushed::Refused { refusal, held };
-    }
-    Encoder { position: held }.put_bytes(store, input);
-    settle(network, store, total, output)
 }

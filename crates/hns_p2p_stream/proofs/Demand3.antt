@@ -1,7 +1,7 @@
 -- Demand 3 on pushes: what `specs/Stream.antt` says of a list of pushes holds of every one. Assumes nothing.
 use Prim.Native.Nat.{ℕ, _+_, _≤_, zero-le}
-use mathlib.Core.Path.{_≡_, refl, sym, ap₂, _∙_, subst}
-use mathlib.Core.List.{List, [], _∷_, _++_, append-assoc, append-nil}
+use mathlib.Core.Path.{_≡_, refl, sym, ap, _∙_, subst}
+use mathlib.Core.List.{List, [], _∷_, _++_}
 use mathlib.Core.Logic.{inl, inr, ⊎-elim}
 use native.Mathlib.Omega.{arith}
 use lib.ListN.{length, take}
@@ -11,17 +11,21 @@ use Rattle.hns_encoding.specs.Bytes.{Bytes, none}
 use Rattle.hns_encoding.specs.Format.{All}
 use Rattle.hns_encoding.specs.Put.{splice}
 use Rattle.hns_p2p_frame.specs.declared.NetworkMagic.{NetworkMagic}
+use Rattle.hns_p2p_frame.specs.declared.Pushed.{Pushed}
+use Rattle.hns_p2p_frame.specs.declared.Pushed.the-variants.{Accepted, Refused}
 use Rattle.hns_p2p_frame.specs.Frame.{Frame, WellFormed, encodings, notYet, front}
 use Rattle.hns_p2p_frame.specs.Conditions.{few}
 use Rattle.hns_p2p_frame.specs.Walk.{Walked, stopped, refused, walk}
-use Rattle.hns_p2p_frame.specs.Push.{Result, settled, push}
+use Rattle.hns_p2p_frame.specs.Push.{Result, settled, push, delivered}
+use Rattle.hns_p2p_stream.specs.Runs as lists
+use Rattle.hns_p2p_stream.specs.Runs.{told, Stream, after, PushOn, taking, Hands, Total, adding, Run, more, Calls}
 use Rattle.hns_p2p_stream.specs.Stream as stream
 use Rattle.hns_p2p_stream.specs.Stream.{Call, Event, event, events, heldCount, storeAfter, countAfter, heldAfter, received, receivedAll, Delivers, DeliversAll, AnyHeaderRefused, NotTurnedAway, mostHeld, Demand3Holds, StreamKept}
 use Rattle.hns_p2p_frame.proofs.Fronts.{front-is}
-use Rattle.hns_p2p_stream.proofs.Encodings.{encodings-append}
 use Rattle.hns_p2p_stream.proofs.Ends.{front-few-held, front-none, Ended, walk-ended}
 use Rattle.hns_p2p_frame.proofs.Tests.{PushTested, over, large, unstored, no-room, fits, tested}
-use Rattle.hns_p2p_stream.proofs.Pushes.{Good, steps, step-good, step-long, step-bytes, step-some, step-one, step-open, step-shut, step-stays, Shut}
+use Rattle.hns_p2p_stream.proofs.Pushes.{Good, steps, step-good, step-open, step-shut, step-stays, Shut}
+use Rattle.hns_p2p_stream.proofs.Runs.{Sound, kept, some-run, one-run, asTold, ported-step}
 
 abbrev ByteInputs : List Call → Type 0
 ByteInputs cs = All (λ c. Bytes (c .input)) cs
@@ -34,55 +38,104 @@ parts (stream.more gs hs d ds) = (gs, hs, refl, d, ds)
 nothing : {net : NetworkMagic} {fs : List Frame} → DeliversAll net [] fs → fs ≡ []
 nothing stream.none = refl
 
-pub all-append : (fs gs : List Frame) → All WellFormed fs → All WellFormed gs → All WellFormed (fs ++ gs)
-all-append [] gs a b = b
-all-append (f ∷ fs) gs a b = (a .0, all-append fs gs (a .1) b)
+-- ---- its pushes as a run
 
-joined : (a r n e m f k : List ℕ) → a ++ r ≡ e ++ m → m ++ n ≡ f ++ k → a ++ (r ++ n) ≡ (e ++ f) ++ k
-joined a r n e m f k p q = sym (append-assoc a r n) ∙ rw (p, append-assoc e m n, q) (sym (append-assoc e f k))
+ported : PushOn (Unit {0})
+ported net z x o = asTold (push net (z .store) (z .count) x o) tt
+
+abbrev on : List ℕ → ℕ → Stream (Unit {0})
+on s h = record { store = s; count = h; also = tt }
+
+ported-sound : Sound ported
+unfolding ported
+ported-sound net z x o g b = ported-step z tt g (steps net (z .store) (z .count) x o g b)
+
+calls : List Call → List (lists.Call (Unit {0}))
+calls [] = []
+calls (c ∷ cs) = record { push = ported; input = c .input; output = c .output } ∷ calls cs
+
+calls-sound : (cs : List Call) → ByteInputs cs → Calls Sound (calls cs)
+unfolding calls
+calls-sound [] b = tt
+calls-sound (c ∷ cs) b = ((ported-sound, b .0), calls-sound cs (b .1))
+
+-- the words of a run are those of the demand
+hands : (net : NetworkMagic) (a : Pushed) (o : List ℕ) (fs : List Frame) → Delivers net a o fs → Hands net (told (delivered a)) o fs
+unfolding Delivers told delivered encodings
+hands net (Accepted n b k) o fs d = d
+hands net (Refused r k) o fs d = rw d (refl, refl, zero-le)
+
+delivers : (net : NetworkMagic) (a : Pushed) (o : List ℕ) (fs : List Frame) → Hands net (told (delivered a)) o fs → Delivers net a o fs
+unfolding Delivers told delivered
+delivers net (Accepted n b k) o fs d = d
+delivers net (Refused r k) o [] d = refl
+delivers net (Refused r k) o (f ∷ fs) d = absurd (omega (arith, d .0))
+
+takes : (a : Pushed) (x : List ℕ) → taking (told (delivered a) .verdict) x ≡ received a x
+unfolding told delivered taking received
+takes (Accepted n b k) x = refl
+takes (Refused r k) x = refl
+
+held-is : (a : Pushed) → told (delivered a) .held ≡ heldCount a
+unfolding told delivered heldCount
+held-is (Accepted n b k) = refl
+held-is (Refused r k) = refl
 
 module _ (net : NetworkMagic) where
+  record RunOf (cs : List Call) (s : List ℕ) (h : ℕ) (fs : List Frame) : Type 0 where
+    total : Total
+    run : Run net (on s h) (calls cs) total (on (storeAfter s (events push net s h cs)) (countAfter h (events push net s h cs)))
+    frames : total .frames ≡ fs
+    received : total .received ≡ receivedAll (events push net s h cs)
+
+  run-of : (cs : List Call) (s : List ℕ) (h : ℕ) (fs : List Frame) → DeliversAll net (events push net s h cs) fs → RunOf cs s h fs
+  unfolding event events storeAfter countAfter receivedAll calls ported
+  run-of [] s h fs d = record { total = _; run = lists.none; frames = sym (nothing d); received = refl }
+  run-of (c ∷ cs) s h fs d =
+      let p = parts d in
+      let e = push net s h (c .input) (c .output) in
+      let r = run-of cs (e .store) (heldCount (e .answer)) (p .1) (p .4) in
+      let k : after (asTold e (tt {0})) ≡ on (e .store) (heldCount (e .answer)) = ap (on (e .store)) (held-is (e .answer)) in
+      record {
+        total = adding (asTold e (tt {0})) (c .input) (p .0) (r .total);
+        run = more {c = record { push = ported; input = c .input; output = c .output }} (p .0) (hands net (e .answer) (e .output) (p .0) (p .3)) (rw (← k) at (r .run));
+        frames = rw (r .frames) (sym (p .2));
+        received = rw (takes (e .answer) (c .input), r .received);
+      }
+
+  of-run : (cs : List Call) (s : List ℕ) (h : ℕ) {w : Total} {z : Stream (Unit {0})} → Run net (on s h) (calls cs) w z → DeliversAll net (events push net s h cs) (w .frames)
+  unfolding event events calls ported
+  of-run [] s h lists.none = stream.none
+  of-run (c ∷ cs) s h (more {w = w} fs d r) =
+      let e = push net s h (c .input) (c .output) in
+      let k : after (asTold e (tt {0})) ≡ on (e .store) (heldCount (e .answer)) = ap (on (e .store)) (held-is (e .answer)) in
+      stream.more fs (w .frames) (delivers net (e .answer) (e .output) fs d) (of-run cs (e .store) (heldCount (e .answer)) (rw k at r))
+
   some-delivered : (cs : List Call) (s : List ℕ) (h : ℕ) → Good s h → ByteInputs cs → (fs : List Frame) × DeliversAll net (events push net s h cs) fs × All WellFormed fs
-  unfolding event events
-  some-delivered [] s h g b = ([], stream.none, tt)
-  some-delivered (c ∷ cs) s h g b =
-      let st = steps net s h (c .input) (c .output) g (b .0) in
-      let d = step-some st in
-      let r = some-delivered cs _ _ (step-good st g (b .0)) (b .1) in
-      (d .0 ++ r .0, stream.more (d .0) (r .0) (d .1) (r .1), all-append (d .0) (r .0) (d .2) (r .2))
+  some-delivered cs s h g b =
+      let a = calls-sound cs b in
+      let r = some-run {net = net} (calls cs) (on s h) a g in
+      (r .0 .frames, of-run cs s h (r .2), kept a g (r .2) .well-formed)
 
   one-delivered : (cs : List Call) (s : List ℕ) (h : ℕ) → Good s h → ByteInputs cs → (fs gs : List Frame) → DeliversAll net (events push net s h cs) fs → DeliversAll net (events push net s h cs) gs → fs ≡ gs
-  unfolding event events
-  one-delivered [] s h g b fs gs d e = nothing d ∙ sym (nothing e)
-  one-delivered (c ∷ cs) s h g b fs gs d e =
-      let st = steps net s h (c .input) (c .output) g (b .0) in
-      let p = parts d in
-      let q = parts e in
-      p .2 ∙ ap₂ (λ (k l : List Frame). k ++ l) (step-one st (p .0) (q .0) (p .3) (q .3)) (one-delivered cs _ _ (step-good st g (b .0)) (b .1) (p .1) (q .1) (p .4) (q .4)) ∙ sym (q .2)
+  one-delivered cs s h g b fs gs d e =
+      let p = run-of cs s h fs d in
+      let q = run-of cs s h gs e in
+      sym (p .frames) ∙ ap (λ (w : Total). w .frames) (one-run (calls-sound cs b) g (p .run) (q .run) .0) ∙ q .frames
 
   bytes-kept : (cs : List Call) (s : List ℕ) (h : ℕ) → Good s h → ByteInputs cs → (fs : List Frame) → DeliversAll net (events push net s h cs) fs
       → take h s ++ receivedAll (events push net s h cs) ≡ encodings net fs ++ take (countAfter h (events push net s h cs)) (storeAfter s (events push net s h cs))
-  unfolding event events receivedAll countAfter storeAfter encodings
-  bytes-kept [] s h g b fs d = rw (nothing d) (append-nil (take h s))
-  bytes-kept (c ∷ cs) s h g b fs d =
-      let st = steps net s h (c .input) (c .output) g (b .0) in
-      let p = parts d in
-      let one = step-bytes st (p .0) (p .3) in
-      let rest = bytes-kept cs _ _ (step-good st g (b .0)) (b .1) (p .1) (p .4) in
-      let e = event push net s h c in
-      let es = events push net (e .store) (heldCount (e .answer)) cs in
-      rw (p .2, encodings-append)
-      (joined (take h s) (received (e .answer) (c .input)) (receivedAll es) (encodings net (p .0)) (take (heldCount (e .answer)) (e .store)) (encodings net (p .1))
-      (take (countAfter (heldCount (e .answer)) es) (storeAfter (e .store) es)) one rest)
+  bytes-kept cs s h g b fs d =
+      let p = run-of cs s h fs d in
+      let es = events push net s h cs in
+      ap (λ (l : List ℕ). take h s ++ l) (sym (p .received)) ∙ kept (calls-sound cs b) g (p .run) .all-bytes ∙ ap (λ (l : List Frame). encodings net l ++ take (countAfter h es) (storeAfter s es)) (p .frames)
 
   long-kept : (cs : List Call) (s : List ℕ) (h : ℕ) → Good s h → ByteInputs cs
       → Good (storeAfter s (events push net s h cs)) (countAfter h (events push net s h cs)) × (length (storeAfter s (events push net s h cs)) ≡ length s)
-  unfolding event events countAfter storeAfter
-  long-kept [] s h g b = (g, refl)
-  long-kept (c ∷ cs) s h g b =
-      let st = steps net s h (c .input) (c .output) g (b .0) in
-      let r = long-kept cs _ _ (step-good st g (b .0)) (b .1) in
-      (r .0, r .1 ∙ step-long st)
+  long-kept cs s h g b =
+      let d = some-delivered cs s h g b in
+      let k = kept (calls-sound cs b) g (run-of cs s h (d .0) (d .1) .run) in
+      (k .good, k .same-length)
 
   open-kept : (cs : List Call) (s : List ℕ) (h : ℕ) → Good s h → ByteInputs cs → front net (take h s) ≡ notYet → ¬ AnyHeaderRefused (events push net s h cs)
       → front net (take (countAfter h (events push net s h cs)) (storeAfter s (events push net s h cs))) ≡ notYet

@@ -1,7 +1,7 @@
 -- Encodings of frames: they read and walk as their frames, and determine them. Assumes nothing.
 use Prim.Native.Nat.{ℕ, _+_, _≤_, _<_, _^_}
 use mathlib.Core.Path.{_≡_, refl, sym, ap, ap₂, _∙_}
-use mathlib.Core.List.{List, [], _∷_, _++_, append-assoc}
+use mathlib.Core.List.{List, [], _∷_, _++_, append-assoc, append-nil}
 use native.Mathlib.Omega.{arith}
 use lib.ListN.{length, take, drop, length-append}
 use lib.Seq.{take-append-seam, drop-append-seam, drop-drop}
@@ -13,10 +13,10 @@ use Rattle.hns_encoding.proofs.Numbers.{le-leBytes}
 use Rattle.hns_p2p_frame.specs.declared.NetworkMagic.{NetworkMagic}
 use Rattle.hns_p2p_frame.specs.declared.NetworkMagic.the-variants.{Mainnet, Testnet, Regtest, Simnet}
 use Rattle.hns_p2p_frame.specs.Frame.{magic, Frame, WellFormed, encoding, encodings, whole, payloadLength, frameOf, front}
-use Rattle.hns_p2p_frame.specs.Conditions.{full}
-use Rattle.hns_p2p_frame.specs.Walk.{Walked, stopped, refused, walk}
+use Rattle.hns_p2p_frame.specs.Conditions.{few, full}
+use Rattle.hns_p2p_frame.specs.Walk.{before, cut, Walked, stopped, refused, walk}
 use Rattle.hns_p2p_frame.proofs.Fronts.{front-is}
-use Rattle.hns_p2p_frame.proofs.Walks.{also, onward, walk-turn, length-encoding}
+use Rattle.hns_p2p_frame.proofs.Walks.{also, onward, walk-turn, cut-open, cut-frame, length-encoding}
 
 -- how a frame's encoding, and then rest, read
 record Laid (net : NetworkMagic) (f : Frame) (rest xs : List ℕ) : Type 0 where
@@ -87,6 +87,15 @@ module _ (net : NetworkMagic) where
   also-refused [] r = refl
   also-refused (f ∷ fs) r = rw (also-refused fs r)
 
+  -- and the same of the walk that always answers
+  pub cut-encodings : (fs : List Frame) (rest : List ℕ) → All WellFormed fs → cut net (encodings net fs ++ rest) ≡ before fs (cut net rest)
+  unfolding encodings
+  cut-encodings [] rest a = refl
+  cut-encodings (f ∷ fs) rest a = rw (append-assoc, cut-frame net (encoding net f ++ (encodings net fs ++ rest)) f (encodings net fs ++ rest) (front-encoding net f (encodings net fs ++ rest) (a .0 .within)), cut-encodings fs rest (a .1))
+
+  pub frames-encodings : (fs : List Frame) → All WellFormed fs → cut net (encodings net fs) .frames ≡ fs
+  frames-encodings fs a = ap (λ (l : List ℕ). cut net l .frames) (sym (append-nil (encodings net fs))) ∙ rw (cut-encodings fs [] a, cut-open net [] (front-is (few (omega arith))), append-nil)
+
   pub encodings-append : (fs gs : List Frame) → encodings net (fs ++ gs) ≡ encodings net fs ++ encodings net gs
   unfolding encodings
   encodings-append [] gs = refl
@@ -103,3 +112,7 @@ module _ (net : NetworkMagic) where
       let l = ap length e ∙ length-append (encoding net g) (encodings net gs) in
       let p = encoding-one net f g (encodings net fs) (encodings net gs) (omega (arith, k, length-encoding net f)) (omega (arith, l, length-encoding net g)) e in
       ap₂ (λ (x : Frame) (xs : List Frame). x ∷ xs) (p .0) (encodings-one fs gs (omega (arith, k)) (omega arith) (p .1))
+
+pub all-append : (fs gs : List Frame) → All WellFormed fs → All WellFormed gs → All WellFormed (fs ++ gs)
+all-append [] gs a b = b
+all-append (f ∷ fs) gs a b = (a .0, all-append fs gs (a .1) b)

@@ -2,6 +2,7 @@ pub mod Encodings
 pub mod Grown
 pub mod Ends
 pub mod Pushes
+pub mod Runs
 pub mod Demand3
 pub mod Worked
 pub mod Conditions

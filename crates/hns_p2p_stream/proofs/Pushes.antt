@@ -1,7 +1,7 @@
 -- What one push does: refused before the append, refused for a header, or accepted. Assumes nothing.
 use Prim.Native.Nat.{ℕ, _+_, _≤_}
 use mathlib.Core.Path.{_≡_, refl, sym, ap, _∙_}
-use mathlib.Core.List.{List, [], _++_, append-nil}
+use mathlib.Core.List.{List, [], _++_}
 use mathlib.Core.Bool.{Bool, true, false}
 use native.Mathlib.Omega.{arith}
 use lib.ListN.{length, take, length-append}
@@ -20,15 +20,14 @@ use Rattle.hns_p2p_frame.specs.declared.Pushed.the-variants.{Accepted, Refused}
 use Rattle.hns_p2p_frame.specs.Frame.{Frame, WellFormed, encodings, notYet, front}
 use Rattle.hns_p2p_frame.specs.Walk.{Walked, stopped, refused, walk}
 use Rattle.hns_p2p_frame.specs.Push.{Result, needed, settled, push}
-use Rattle.hns_p2p_stream.specs.Stream.{heldCount, forHeader, received, Delivers, HeaderRefused}
+use Rattle.hns_p2p_stream.specs.Stream.{heldCount, forHeader, Delivers, HeaderRefused}
 use Rattle.hns_p2p_frame.proofs.Slices.{take-spliced, length-held, take-held}
 use Rattle.hns_p2p_frame.proofs.Walks.{WalkCut, walk-cut}
 use Rattle.hns_p2p_frame.proofs.Tests.{PushTested, over, large, unstored, no-room, fits, tested}
-use Rattle.hns_p2p_stream.proofs.Encodings.{encodings-one}
 use Rattle.hns_p2p_stream.proofs.Grown.{walk-more}
 use Rattle.hns_p2p_stream.proofs.Ends.{Ended, walk-ended}
 
-T-true : (b : Bool) → T b → b ≡ true
+pub T-true : (b : Bool) → T b → b ≡ true
 T-true true t = refl
 T-true false t = absurd t
 
@@ -114,28 +113,6 @@ module _ {net : NetworkMagic} {s : List ℕ} {h : ℕ} {x o : List ℕ} where
   step-long (away r e) = refl
   step-long (header r s′ t w e l k) = k
   step-long (taken fs rest s′ o′ a) = a .same-length
-
-  -- bytes held and received are those delivered and then held
-  pub step-bytes : {p : Result} → Stepped net s h x o p → (fs : List Frame) → Delivers net (p .answer) (p .output) fs
-      → take h s ++ received (p .answer) x ≡ encodings net fs ++ take (heldCount (p .answer)) (p .store)
-  unfolding heldCount Delivers received encodings
-  step-bytes (away r e) fs d = rw (d, e) (append-nil (take h s))
-  step-bytes (header r s′ t w e l k) fs d = rw (d, e, T-true (forHeader r) t)
-  step-bytes (taken gs rest s′ o′ a) fs d = rw (a .held) (sym (a .cut) ∙ ap (λ (l : List ℕ). l ++ rest) (sym (d .1 ∙ a .delivered)))
-
-  -- what a push delivers: some frames, one list only, and well-formed
-  pub step-some : {p : Result} → Stepped net s h x o p → (fs : List Frame) × Delivers net (p .answer) (p .output) fs × All WellFormed fs
-  unfolding Delivers
-  step-some (away r e) = ([], refl, tt)
-  step-some (header r s′ t w e l k) = ([], refl, tt)
-  step-some (taken fs rest s′ o′ a) = (fs, (refl, sym (a .delivered), a .room), a .well-formed)
-
-  pub step-one : {p : Result} → Stepped net s h x o p → (fs gs : List Frame) → Delivers net (p .answer) (p .output) fs → Delivers net (p .answer) (p .output) gs → fs ≡ gs
-  unfolding Delivers
-  step-one (away r e) fs gs d k = d ∙ sym k
-  step-one (header r s′ t w e l m) fs gs d k = d ∙ sym k
-  step-one (taken hs rest s′ o′ a) fs gs d k =
-      encodings-one net fs gs (rw (d .1, a .delivered) (omega (arith, a .limit))) (d .0 ∙ sym (k .0)) (d .1 ∙ sym (k .1))
 
   -- no header was refused: the held bytes begin with neither a whole frame nor a bad header
   pub step-open : {p : Result} → Stepped net s h x o p → front net (take h s) ≡ notYet → ¬ HeaderRefused (p .answer)

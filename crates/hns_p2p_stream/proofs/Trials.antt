@@ -17,10 +17,10 @@ use Rattle.hns_p2p_frame.specs.declared.NetworkMagic.the-variants.{Mainnet}
 use Rattle.hns_p2p_frame.specs.Frame.{magic, Frame, encoding, encodings, same, payloadLength, front}
 use Rattle.hns_p2p_frame.specs.Conditions.{wrong}
 use Rattle.hns_p2p_frame.specs.Walk.{badHeader, ended, onwards, cutUpTo, cut, stopped, walkedFor, walk}
-use Rattle.hns_p2p_frame.specs.Push.{Result, settled, admitted, push}
+use Rattle.hns_p2p_frame.specs.Push.{Result, settled, passing, admitted, push}
 use Rattle.hns_p2p_frame.proofs.Fronts.{front-is}
 use Rattle.hns_p2p_frame.proofs.Slices.{take-spliced}
-use Rattle.hns_p2p_frame.proofs.Tests.{fits, admitted-is}
+use Rattle.hns_p2p_frame.proofs.Tests.{fits, passing-is}
 use Rattle.hns_p2p_frame.proofs.Walks.{cut-bad, length-encoding}
 use Rattle.hns_p2p_stream.specs.Stream as stream
 use Rattle.hns_p2p_stream.specs.Stream.{AnyPush, Call, heldCount, event, events, storeAfter, countAfter, heldAfter, forHeader, received, receivedAll, Delivers, BeginsWithFrame, HeaderRefused, AnyHeaderRefused, Demand3For}
@@ -81,8 +81,8 @@ module _ (z : List ℕ) (b : Bytes z) (n : length z ≡ 8000005) (room : List �
   refused = cut-bad Mainnet bad _ (front-is (wrong (omega arith) wrong-magic))
 
   accepted : handsOutBefore Mainnet room 0 bad room ≡ settled Mainnet (stopped [] bad) (splice room 0 bad) (length bad) room
-  unfolding atBadHeader byWhy
-  accepted = admitted-is (fits (omega arith) (omega arith) (omega arith) (omega arith)) ∙ rw (refused, zero-add (length bad))
+  unfolding atBadHeader byWhy admitted
+  accepted = passing-is (fits (omega arith) (omega arith) (omega arith) (omega arith)) ∙ rw (refused, zero-add (length bad))
 
   too-many : ¬ Demand3For handsOutBefore
   unfolding settled event events storeAfter countAfter heldAfter heldCount AnyHeaderRefused HeaderRefused
@@ -96,7 +96,7 @@ handed-out = too-many (zeros 8000005) (zeros-bytes 8000005) (length-zeros 800000
 
 -- the frame before a wrong magic, which the first push refuses, is delivered by the second
 later-delivered : ¬ Demand3For deliversLater
-unfolding le leBytes splice magic encoding encodings same payloadLength front onwards cutUpTo cut walkedFor walk settled admitted push heldCount forHeader received Delivers HeaderRefused event events AnyHeaderRefused byWhy deliversLater
+unfolding le leBytes splice magic encoding encodings same payloadLength front onwards cutUpTo cut walkedFor walk settled passing admitted push heldCount forHeader received Delivers HeaderRefused event events AnyHeaderRefused byWhy deliversLater
 later-delivered d =
     let first : Call = record { input = encoding Mainnet verack ++ wrongMagic; output = room } in
     let second : Call = record { input = []; output = room } in
@@ -106,7 +106,7 @@ later-delivered d =
     omega (arith, ap length (t .then-none (e ∷ []) (f ∷ []) refl (inl tt) (verack ∷ []) (stream.more (verack ∷ []) [] (refl, refl, omega arith) stream.none)))
 
 pub trials : TrialsFail
-unfolding le leBytes splice magic encoding encodings same payloadLength front onwards cutUpTo cut walkedFor walk settled admitted push heldCount forHeader received Delivers HeaderRefused walking firstOf storesNothing oneMore miscounts byWhy atBadHeader
+unfolding le leBytes splice magic encoding encodings same payloadLength front onwards cutUpTo cut walkedFor walk settled passing admitted push heldCount forHeader received Delivers HeaderRefused walking firstOf storesNothing oneMore miscounts byWhy atBadHeader
 trials =
     record {
       -- the second frame is held

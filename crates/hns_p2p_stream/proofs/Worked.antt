@@ -10,7 +10,7 @@ use Rattle.hns_p2p_frame.specs.declared.NetworkMagic.the-variants.{Mainnet, Reg
 use Rattle.hns_p2p_frame.specs.declared.Pushed.the-variants.{Accepted, Refused}
 use Rattle.hns_p2p_frame.specs.Frame.{magic, encoding, encodings, bad, same, payloadLength, front, missing, exactly, decodeExact}
 use Rattle.hns_p2p_frame.specs.Walk.{onwards, cutUpTo, cut, walkedFor, walk}
-use Rattle.hns_p2p_frame.specs.Push.{settled, admitted, push}
+use Rattle.hns_p2p_frame.specs.Push.{settled, passing, admitted, push}
 
 -- a frame of type 1 with no payload and one of type 2 with eight bytes
 abbrev frames : List ℕ
@@ -34,6 +34,6 @@ pub record Worked : Type 0 where
   refused-18 : push Mainnet (replicate 4 0) 5 [] room .answer ≡ Refused (heldOver 5) 5
 
 pub worked : Worked
-unfolding le leBytes splice magic encoding encodings same payloadLength front missing exactly decodeExact onwards cutUpTo cut walkedFor walk settled admitted push
+unfolding le leBytes splice magic encoding encodings same payloadLength front missing exactly decodeExact onwards cutUpTo cut walkedFor walk settled passing admitted push
 worked =
     record { answered = refl; delivered = refl; held = refl; refused-4 = refl; refused-5 = refl; refused-8 = refl; refused-17 = refl; refused-18 = refl }

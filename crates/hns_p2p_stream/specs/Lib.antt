@@ -1,3 +1,4 @@
 pub mod Conditions
 pub mod Stream
+pub mod Runs
 pub mod Trials

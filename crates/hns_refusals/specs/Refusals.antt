@@ -1,4 +1,4 @@
--- The refusals of document 01, one definition for each row of its table: the number, then values a, b, c. 0 stands where the document names no value.
+-- The refusals of documents 01 and 02, one definition for each row of the table: the number, then values a, b, c. 0 stands where the documents name no value.
 use Prim.Native.Nat.{ℕ}
 use Rattle.hns_refusals.specs.declared.Refusal.{Refusal}
 use Rattle.hns_refusals.specs.Limits.{maxPayload, maxStream, maxIndexes}
@@ -81,6 +81,10 @@ heldOver held = refusal 18 held 0 0
 -- a place that no item has
 abbrev pub noItem : Refusal
 noItem = refusal 19 0 0 0
+
+-- no room in a tally's totals for what is held and pushed
+abbrev pub tallyFull : Refusal
+tallyFull = refusal 20 0 0 0
 
 -- codes of fields, for value c
 abbrev pub addressField : ℕ

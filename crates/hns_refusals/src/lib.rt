@@ -1,8 +1,8 @@
-// Document 01's table of refusals: one type for the whole repository, and a constructor for each row that the code gives.
+// The table of refusals of documents 01 and 02: one type for the whole repository, and a constructor for each row that the code gives.
 ghost use mathlib.Core.Path.{_≡_};
-ghost use Rattle.hns_refusals.specs.Refusals.{unexpectedEnd, notShortest, trailingBytes, magicMismatch, payloadTooLarge, streamTooLarge, overLimit, incompleteFrame, indexOver, notAscii, hashPresence, tooManyIndexes, indexTooLarge, notRising, headerLength, outputShort, storeShort, heldOver, noItem};
+ghost use Rattle.hns_refusals.specs.Refusals.{unexpectedEnd, notShortest, trailingBytes, magicMismatch, payloadTooLarge, streamTooLarge, overLimit, incompleteFrame, indexOver, notAscii, hashPresence, tooManyIndexes, indexTooLarge, notRising, headerLength, outputShort, storeShort, heldOver, noItem, tallyFull};
 
-// A refusal as document 01's table has it: its number and its values, 0 where unnamed.
+// A refusal as the documents' table has it: its number and its values, 0 where unnamed.
 pub struct Refusal {
     pub number: u64,
     pub a: u64,
@@ -48,6 +48,8 @@ impl Refusal {
     pub const HELD_OVER: u64 = 18;
 
     pub const NO_ITEM: u64 = 19;
+
+    pub const TALLY_FULL: u64 = 20;
 
     // The bytes end in a field that begins at `offset`.
     pub fn unexpected_end(offset: usize, missing: usize) -> Refusal
@@ -271,6 +273,18 @@ impl Refusal {
     {
         Refusal {
             number: Refusal::NO_ITEM,
+            a: 0,
+            b: 0,
+            c: 0,
+        }
+    }
+
+    // A tally whose totals have no room for the held bytes and the input.
+    pub fn tally_full() -> Refusal
+        ensures { λ r. ⌜ r ≡ tallyFull ⌝ }
+    {
+        Refusal {
+            number: Refusal::TALLY_FULL,
             a: 0,
             b: 0,
             c: 0,

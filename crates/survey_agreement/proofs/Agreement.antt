@@ -24,9 +24,8 @@ use Rattle.hns_p2p_frame.proofs.Fronts.{seen, front-is}
 use Rattle.hns_p2p_frame.proofs.Walks.{cut-open, cut-frame}
 use Rattle.hns_p2p_frame.proofs.Tests.{PushTested, over, large, unstored, no-room, fits, tested}
 use Rattle.hns_p2p_stream.specs.Stream.{heldCount, forHeader, Delivers}
-use Rattle.hns_p2p_stream.proofs.Encodings.{front-encoding, encodings-append}
+use Rattle.hns_p2p_stream.proofs.Encodings.{front-encoding, encodings-append, all-append}
 use Rattle.hns_p2p_stream.proofs.Ends.{front-few-held, Ended, walk-ended}
-use Rattle.hns_p2p_stream.proofs.Demand3.{all-append}
 use Rattle.hns_p2p_stream.proofs.Pushes.{Good, Accepts, Stepped, away, header, taken, steps, step-good}
 use Rattle.survey_export.specs.Survey.{chunkSize, Survey, Last, held, stop, delivered, addedBy, Chunk, chunk, surveyBy, surveyFrom, survey}
 use Rattle.survey_agreement.specs.Agreement.{State, start, pushed, stepped, here, more, StoppedBy, Agrees, LogAndExportAgree, LinesAreDelivered}

@@ -7,7 +7,7 @@ use Rattle.hns_encoding.specs.Bytes.{le, leBytes}
 use Rattle.hns_encoding.specs.Put.{splice}
 use Rattle.hns_p2p_frame.specs.Frame.{magic, encoding, encodings, same, payloadLength, front}
 use Rattle.hns_p2p_frame.specs.Walk.{onwards, cutUpTo, cut, walkedFor, walk}
-use Rattle.hns_p2p_frame.specs.Push.{settled, admitted, push}
+use Rattle.hns_p2p_frame.specs.Push.{settled, passing, admitted, push}
 use Rattle.survey_digits.specs.Digits.{digit, hex, decimalUpTo, decimal}
 use Rattle.survey_export.specs.Text.{hexPayload, line, lastLine, heldLine}
 use Rattle.survey_export.specs.Survey.{lines, lastText, addedBy, chunk, text, surveyBy, surveyFrom, survey}
@@ -25,5 +25,5 @@ abbrev whole : List ℕ
 whole = 48 ∷ 49 ∷ 32 ∷ 48 ∷ 48 ∷ 48 ∷ 48 ∷ 48 ∷ 48 ∷ 48 ∷ 48 ∷ 10 ∷ 48 ∷ 50 ∷ 32 ∷ 48 ∷ 48 ∷ 48 ∷ 48 ∷ 48 ∷ 48 ∷ 48 ∷ 56 ∷ 32 ∷ 48 ∷ 49 ∷ 48 ∷ 50 ∷ 48 ∷ 51 ∷ 48 ∷ 52 ∷ 48 ∷ 53 ∷ 48 ∷ 54 ∷ 48 ∷ 55 ∷ 48 ∷ 56 ∷ 10 ∷ 104 ∷ 101 ∷ 108 ∷ 100 ∷ 32 ∷ 50 ∷ 10 ∷ []
 
 pub example : text (survey room room log) ≡ whole
-unfolding le leBytes splice magic encoding encodings same payloadLength front onwards cutUpTo cut walkedFor walk settled admitted push digit hex hexPayload line decimalUpTo decimal lastLine heldLine lines lastText addedBy chunk text surveyBy surveyFrom survey
+unfolding le leBytes splice magic encoding encodings same payloadLength front onwards cutUpTo cut walkedFor walk settled passing admitted push digit hex hexPayload line decimalUpTo decimal lastLine heldLine lines lastText addedBy chunk text surveyBy surveyFrom survey
 example = refl

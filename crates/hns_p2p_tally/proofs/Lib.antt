@@ -1,0 +1,5 @@
+pub mod Adds
+pub mod Once
+pub mod Counts
+pub mod Tested
+pub mod Owed
