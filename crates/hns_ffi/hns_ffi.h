@@ -19,8 +19,8 @@
  *   - hns_rewrite takes about 134,000 bytes of stack, the others less than 1,000.
  *
  * No call asks more. None keeps a pointer, allocates, or touches anything but what it is lent. A call
- * that is refused writes its row and nothing else; only a push refused by 4 or 5 has added its input
- * to the store.
+ * that is refused writes its row and nothing else; only a push refused by 4 or 5, with a tally or
+ * without, has added its input to the store.
  *
  * A row is six numbers at the front of `answer`, or sixteen where that is said; what does not fit is
  * dropped. Its first is 0, and what was answered follows, or it is the number of a refusal, and its
@@ -37,6 +37,8 @@
  *   frame written    0, length of its encoding
  *   push             0, frames, length of their encodings, held count
  *                    refusal, a, b, c, held count
+ *   push with tally  0 or refusal, frames, length of their encodings, held count, a, b
+ *                    (no c, which is 0 in every refusal of a push)
  *   rewrite, writers 0, length of the payload
  *
  * Rows of sixteen, about packets. A place counts from the payload's first byte:
@@ -69,8 +71,9 @@
  * (a missing); 9 index over 65,535; 10 text over 127 (c field); 11 hash against the type; 12 too many
  * indexes (a, b limit); 13 index to write over 65,535 (a place); 14 index not above the one before it
  * (a place); 15 header length (a); 16 output too short (a needed); 17 store too short (a needed);
- * 18 held count over the store (a held); 19 no item at the place. Fields: 1 address, 2 inventory,
- * 3 locator, 4 header, 5 index count, 6 index, 7 agent, 8 reason; 0 where the caller gave the limit.
+ * 18 held count over the store (a held); 19 no item at the place; 20 tally full. Fields: 1 address,
+ * 2 inventory, 3 locator, 4 header, 5 index count, 6 index, 7 agent, 8 reason; 0 where the caller gave
+ * the limit.
  *
  * Networks: 0 mainnet, 1 testnet, 2 regtest, 3 simnet. A greater number is taken as simnet, not refused.
  */
@@ -150,6 +153,28 @@ void hns_encode_frame(uint8_t network, uint8_t packet_type, const uint8_t *paylo
 void hns_push(uint8_t network, uint8_t *store, size_t store_len, size_t held,
               const uint8_t *input, size_t input_len, uint8_t *output, size_t output_len,
               uint64_t *answer, size_t answer_len);
+
+/* A tally says what was delivered. It has HNS_TALLY_SIZE numbers: for each type byte t the frames, at t,
+ * and their bytes (each payload plus 9), at HNS_TALLY_BYTES + t; then the totals of both. */
+#define HNS_TALLY_SIZE 514
+#define HNS_TALLY_BYTES 256
+#define HNS_TALLY_TOTAL_FRAMES 512
+#define HNS_TALLY_TOTAL_BYTES 513
+
+/* hns_push, beside which it stands in libhns_ffi_frames.a, with a tally to which the frames that it
+ * delivers are added.
+ *
+ * A tally starts as zeros and is handed from push to push; handed on to a second stream, it counts that
+ * one's frames on top. The totals are part of the tally: a push adds to them, and 20 goes by them and
+ * never sums up the other numbers, so whoever sets those sets the totals too.
+ *
+ * 16 is also the refusal for fewer than HNS_TALLY_SIZE numbers, then with that number as a; more are left
+ * alone. 20 comes after it, if one of the totals, plus held and input, would pass 2^63 - 1. Both are
+ * tested before the input is added to the store, and answer the held count that was given. No refused
+ * push changes the tally, and 4 and 5 are the only ones that change the store. */
+void hns_push_tallying(uint8_t network, uint8_t *store, size_t store_len, size_t held,
+                       const uint8_t *input, size_t input_len, uint8_t *output, size_t output_len,
+                       uint64_t *tally, size_t tally_len, uint64_t *answer, size_t answer_len);
 
 /* Packets. An agent or a reason goes to the front of `text`, each byte without its top bit; 255 bytes
  * are always enough. */

@@ -3,7 +3,8 @@ ghost use mathlib.Core.Path.{_≡_};
 ghost use Rattle.hns_p2p_frame.specs.Frame.{front, decodeExact, writeFrame};
 ghost use Rattle.hns_p2p_frame.specs.Push as Push;
 ghost use Rattle.hns_p2p_frame.specs.Answers.{prefixOf, exactOf};
-ghost use Rattle.hns_rows.specs.Rows.{answered, networkOf, prefixRow, exactRow, encodedRow, pushedRow};
+ghost use Rattle.hns_p2p_tally.specs.Tallying.{pushTallying};
+ghost use Rattle.hns_rows.specs.Rows.{answered, networkOf, prefixRow, exactRow, encodedRow, pushedRow, deliveredRow};
 
 // Frames. Networks are 0 mainnet, 1 testnet, 2 regtest, and simnet from 3 on.
 #[no_mangle]
@@ -53,4 +54,25 @@ pub extern "C" fn hns_push(
 {
     let pushed = hns_p2p_frame::push(hns_rows::network_of(network), store, held, input, output);
     hns_rows::put_row(answer, hns_rows::of_pushed(pushed));
+}
+
+// The same with a tally of 514 numbers, to which the frames that it delivers are added.
+#[no_mangle]
+pub extern "C" fn hns_push_tallying(
+    network: u8,
+    store: &mut [u8],
+    held: usize,
+    input: &[u8],
+    output: &mut [u8],
+    tally: &mut [u64],
+    answer: &mut [u64],
+)
+    ensures { λ _. ⌜ now (answer .exit) ≡ answered (now (answer .entry)) (deliveredRow (pushTallying (networkOf network) (now (store .entry)) held (now (input .entry)) (now (output .entry)) (now (tally .entry)) .answer)) ⌝ }
+    ensures { λ _. ⌜ now (store .exit) ≡ pushTallying (networkOf network) (now (store .entry)) held (now (input .entry)) (now (output .entry)) (now (tally .entry)) .store ⌝ }
+    ensures { λ _. ⌜ now (output .exit) ≡ pushTallying (networkOf network) (now (store .entry)) held (now (input .entry)) (now (output .entry)) (now (tally .entry)) .output ⌝ }
+    ensures { λ _. ⌜ now (tally .exit) ≡ pushTallying (networkOf network) (now (store .entry)) held (now (input .entry)) (now (output .entry)) (now (tally .entry)) .tally ⌝ }
+{
+    let on = hns_rows::network_of(network);
+    let delivered = hns_p2p_tally::push_tallying(on, store, held, input, output, tally);
+    hns_rows::put_row(answer, hns_rows::of_delivered(delivered));
 }

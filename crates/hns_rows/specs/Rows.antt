@@ -25,6 +25,8 @@ use Rattle.hns_p2p_frame.specs.declared.Encoded.{Encoded}
 use Rattle.hns_p2p_frame.specs.declared.Encoded.the-variants as E
 use Rattle.hns_p2p_frame.specs.declared.Pushed.{Pushed}
 use Rattle.hns_p2p_frame.specs.declared.Pushed.the-variants as U
+use Rattle.hns_p2p_frame.specs.declared.Delivered.{Delivered}
+use Rattle.hns_p2p_frame.specs.declared.Delivered.the-variants as D
 
 -- a row at the front of the caller's numbers; what does not fit is dropped
 unfoldable pub answered : List ℕ → List ℕ → List ℕ
@@ -84,3 +86,9 @@ encodedRow (E.Refused r) = refusedRow r 0
 unfoldable pub pushedRow : Pushed → List ℕ
 pushedRow (U.Accepted frames bytes held) = row frames bytes held 0 0
 pushedRow (U.Refused r held) = refusedRow r held
+
+-- 0 or the refusal's number, then the frames' number, the length of their encodings and the held count in either case, then a and b.
+-- c has no place: it is 0 in every refusal that a push gives.
+unfoldable pub deliveredRow : Delivered → List ℕ
+deliveredRow (D.Accepted frames bytes held) = row frames bytes held 0 0
+deliveredRow (D.Refused r frames bytes held) = r .number ∷ frames ∷ bytes ∷ held ∷ r .a ∷ r .b ∷ []

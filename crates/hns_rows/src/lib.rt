@@ -5,6 +5,7 @@ use hns_encoding::Sizes;
 use hns_encoding::Slice;
 use hns_header_consensus::Answer;
 use hns_header_consensus::Header;
+use hns_p2p_frame::Delivered;
 use hns_p2p_frame::Encoded;
 use hns_p2p_frame::Exact;
 use hns_p2p_frame::NetworkMagic;
@@ -15,7 +16,7 @@ ghost use mathlib.Core.Path.{_≡_};
 ghost use Prim.Native.Nat.{_≤_};
 ghost use lib.ListN.{length};
 ghost use lib.Seq.{paste};
-ghost use Rattle.hns_rows.specs.Rows.{answered, networkOf, refusedRow, numberRow, sizesRow, sliceRow, finishedRow, headerRow, prefixRow, exactRow, encodedRow, pushedRow};
+ghost use Rattle.hns_rows.specs.Rows.{answered, networkOf, refusedRow, numberRow, sizesRow, sliceRow, finishedRow, headerRow, prefixRow, exactRow, encodedRow, pushedRow, deliveredRow};
 
 fn copy(answer: &mut [u64], values: [u64; 6], n: usize)
     requires { ⌜ (n ≤ 6) × (n ≤ length (now answer)) ⌝ }
@@ -147,6 +148,31 @@ pub fn of_pushed(pushed: Pushed) -> [u64; 6]
             held,
         } => [0, frames as u64, bytes as u64, held as u64, 0, 0],
         Pushed::Refused { refusal, held } => of_refusal(refusal, held),
+    }
+}
+
+pub fn of_delivered(delivered: Delivered) -> [u64; 6]
+    ensures { λ r. ⌜ r ≡ deliveredRow delivered ⌝ }
+{
+    match delivered {
+        Delivered::Accepted {
+            frames,
+            bytes,
+            held,
+        } => [0, frames as u64, bytes as u64, held as u64, 0, 0],
+        Delivered::Refused {
+            refusal,
+            frames,
+            bytes,
+            held,
+        } => [
+            refusal.number,
+            frames as u64,
+            bytes as u64,
+            held as u64,
+            refusal.a,
+            refusal.b,
+        ],
     }
 }
 

@@ -175,6 +175,20 @@ unsafe extern "C" {
         answer: *mut u64,
         answer_len: usize,
     );
+    pub fn hns_push_tallying(
+        network: u8,
+        store: *mut u8,
+        store_len: usize,
+        held: usize,
+        input: *const u8,
+        input_len: usize,
+        output: *mut u8,
+        output_len: usize,
+        tally: *mut u64,
+        tally_len: usize,
+        answer: *mut u64,
+        answer_len: usize,
+    );
     pub fn hns_read_packet(
         packet_type: u8,
         payload: *const u8,

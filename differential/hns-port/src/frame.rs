@@ -120,6 +120,56 @@ pub fn push(
     })
 }
 
+/// The same push, which adds the frames that it delivers to a tally of [`TALLY_SIZE`](crate::TALLY_SIZE)
+/// numbers, as [`Tally`](crate::Tally) has them: fewer are refused by 16, and totals that would pass
+/// 2^63 - 1 by 20. A refused push leaves the tally as it was.
+#[inline]
+pub fn push_tallying(
+    network: NetworkMagic,
+    store: &mut [u8],
+    held: usize,
+    input: &[u8],
+    output: &mut [u8],
+    tally: &mut [u64],
+) -> Pushed {
+    let (bytes, len) = (input.as_ptr(), input.len());
+    let (kept, room) = (store.as_mut_ptr(), store.len());
+    let (to, most) = (output.as_mut_ptr(), output.len());
+    let (counts, size) = (tally.as_mut_ptr(), tally.len());
+    // SAFETY: as above.
+    let call = |row, n| unsafe {
+        ffi::hns_push_tallying(
+            network as u8,
+            kept,
+            room,
+            held,
+            bytes,
+            len,
+            to,
+            most,
+            counts,
+            size,
+            row,
+            n,
+        );
+    };
+    answer(call, |row| Pushed {
+        answer: match row.at(0) {
+            0 => Ok(Delivered {
+                frames: row.at(1) as usize,
+                bytes: row.at(2) as usize,
+            }),
+            number => Err(Refusal {
+                number,
+                a: row.at(4),
+                b: row.at(5),
+                c: 0,
+            }),
+        },
+        held: row.at(3) as usize,
+    })
+}
+
 /// A stream of frames over a lent store.
 #[derive(Debug)]
 pub struct FrameDecoder<'store> {
@@ -155,6 +205,19 @@ impl<'store> FrameDecoder<'store> {
     #[inline]
     pub fn push(&mut self, input: &[u8], output: &mut [u8]) -> Result<Delivered, Refusal> {
         let pushed = push(self.network, self.store, self.held, input, output);
+        self.held = pushed.held;
+        pushed.answer
+    }
+
+    /// The same, and adds these frames to a tally.
+    #[inline]
+    pub fn push_tallying(
+        &mut self,
+        input: &[u8],
+        output: &mut [u8],
+        tally: &mut [u64],
+    ) -> Result<Delivered, Refusal> {
+        let pushed = push_tallying(self.network, self.store, self.held, input, output, tally);
         self.held = pushed.held;
         pushed.answer
     }

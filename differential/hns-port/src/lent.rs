@@ -25,6 +25,7 @@ pub use crate::Output;
 pub use crate::encoding::{Decoder, Encoder};
 pub use crate::frame::{
     Delivered, Frame, FrameDecoder, Pushed, decode_exact, decode_frame_prefix, encode, push,
+    push_tallying,
 };
 pub use crate::header::{EXTRA_NONCE_SIZE, HASHES_SIZE, HEADER_SIZE, Header};
 pub use crate::packet::{

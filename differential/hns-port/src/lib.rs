@@ -48,6 +48,7 @@ mod owned_packet;
 mod packet;
 mod primitives;
 mod refusal;
+mod tally;
 mod types;
 mod writers;
 
@@ -56,7 +57,12 @@ pub use owned_frame::{Frame, FrameDecoder, decode_frame_prefix};
 pub use owned_packet::Packet;
 pub use primitives::*;
 pub use refusal::{DecodeError, HeaderError, Refusal, WireError};
+pub use tally::{TALLY_SIZE, Tally};
 pub use types::*;
+
+#[cfg(doctest)]
+#[doc = include_str!("../README.md")]
+struct Readme;
 
 /// The folder of the libraries that were linked.
 pub const LIBRARIES: &str = env!("HNS_FFI_LIBRARIES");

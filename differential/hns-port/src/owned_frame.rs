@@ -2,8 +2,8 @@
 
 use crate::owned_packet::written;
 use crate::{
-    FRAME_HEADER_SIZE, MAX_FRAME_PAYLOAD_SIZE, NetworkMagic, Packet, PacketType, Refusal, lent,
-    write_raw,
+    FRAME_HEADER_SIZE, MAX_FRAME_PAYLOAD_SIZE, NetworkMagic, Packet, PacketType, Refusal, Tally,
+    lent, write_raw,
 };
 
 /// A frame.
@@ -124,9 +124,29 @@ impl FrameDecoder {
     /// Takes bytes, and gives the frames that are whole by now. After a refusal by 4 or 5 the bytes are
     /// held, and the stream does not go on; after one by 6 the stream is as it was.
     pub fn push(&mut self, input: &[u8]) -> Result<Vec<Frame>, Refusal> {
+        self.pushed(|network, store, held, output| lent::push(network, store, held, input, output))
+    }
+
+    /// The same, and adds these frames to a tally. It is refused by 20 too, where a total of the tally
+    /// would pass 2^63 - 1; stream and tally are then as they were.
+    pub fn push_tallying(
+        &mut self,
+        input: &[u8],
+        tally: &mut Tally,
+    ) -> Result<Vec<Frame>, Refusal> {
+        self.pushed(|network, store, held, output| {
+            lent::push_tallying(network, store, held, input, output, tally.numbers_mut())
+        })
+    }
+
+    /// A push, once store and output are long enough, and its frames.
+    fn pushed(
+        &mut self,
+        mut push: impl FnMut(NetworkMagic, &mut [u8], usize, &mut [u8]) -> lent::Pushed,
+    ) -> Result<Vec<Frame>, Refusal> {
         let delivered = loop {
             let (store, output) = (&mut self.store, &mut self.output);
-            let pushed = lent::push(self.network, store, self.held, input, output);
+            let pushed = push(self.network, store, self.held, output);
             self.held = pushed.held;
             // These two change nothing, and say the length that is needed.
             match pushed.answer {

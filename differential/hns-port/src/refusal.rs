@@ -65,6 +65,7 @@ impl fmt::Display for Refusal {
             17 => write!(f, "store too short, {a} needed"),
             18 => write!(f, "held count {a} over the store"),
             19 => write!(f, "no item at the place"),
+            20 => write!(f, "tally full"),
             _ => write!(f, "values {a}, {b}"),
         }
     }
