@@ -6,6 +6,7 @@
 //! in the same chunks take turns. The port's store and output are lent once, are 16,000,018 bytes
 //! each and are not cleared between runs. The Rust keeps one decoder, so its buffer has grown in
 //! a first run that is not counted; the frames that it delivers are dropped after each push.
+//! Pushes with a tally have the push without in the place of the copy.
 //!
 //! With several tables (1), each number is the median over them, and for a ratio the least and the
 //! greatest follow.
@@ -91,6 +92,13 @@ fn table(
         (
             "streams, frames, headers, compact sizes",
             rows(&rows::NAMES),
+        ),
+        (
+            "pushes with a tally; instead of the copy, the push without",
+            rows::TALLIED
+                .iter()
+                .map(|name| rows::tallied(name, inputs, buffers))
+                .collect(),
         ),
         ("packets", packets),
         (

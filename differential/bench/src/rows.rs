@@ -51,6 +51,14 @@ pub const NAMES: [&str; 17] = [
     "write frames with 21 bytes of payload",
 ];
 
+/// Pushes with a tally. The push without stands in the place of the copy.
+pub const TALLIED: [&str; 4] = [
+    "push with a tally, frames of 30 bytes, chunks of 4,096",
+    "push with a tally, frames of 30 bytes, chunks of 65,536",
+    "push with a tally, mixed frames, chunks of 4,096",
+    "push with a tally, mixed frames, chunks of 65,536",
+];
+
 /// What is left beside the Rust inlined: a list of the least work, and a call of the port for each,
 /// which a library behind a C boundary costs.
 pub const INLINED: [&str; 4] = [
@@ -71,13 +79,17 @@ fn input<'a>(name: &str, inputs: &'a Inputs) -> &'a [u8] {
     }
 }
 
-pub fn row<'a>(name: &'static str, inputs: &'a Inputs, buffers: &'a Buffers) -> Row<'a> {
-    let bytes = input(name, inputs);
-    let chunk = match name {
+fn chunk(name: &str, bytes: &[u8]) -> usize {
+    match name {
         _ if name.ends_with("4,096") => 4096,
         _ if name.ends_with("65,536") => 65_536,
         _ => bytes.len(),
-    };
+    }
+}
+
+pub fn row<'a>(name: &'static str, inputs: &'a Inputs, buffers: &'a Buffers) -> Row<'a> {
+    let bytes = input(name, inputs);
+    let chunk = chunk(name, bytes);
     let walked = name.contains("walked");
     let list = name.ends_with("list");
     let inlined = name.ends_with("inlined");
@@ -105,6 +117,20 @@ pub fn row<'a>(name: &'static str, inputs: &'a Inputs, buffers: &'a Buffers) -> 
         port,
         rust,
         copy: Box::new(move || copy(bytes, chunk, &mut buffers.copied.borrow_mut())),
+    }
+}
+
+pub fn tallied<'a>(name: &'static str, inputs: &'a Inputs, buffers: &'a Buffers) -> Row<'a> {
+    let bytes = input(name, inputs);
+    let chunk = chunk(name, bytes);
+    let (without, rust) = push(bytes, chunk, false, buffers);
+    Row {
+        name: name.to_owned(),
+        bytes: bytes.len(),
+        items: 0,
+        port: push_tallying(bytes, chunk, buffers),
+        rust,
+        copy: without,
     }
 }
 
@@ -154,6 +180,18 @@ fn push<'a>(
         }
     };
     (Box::new(on_port), Box::new(on_rust))
+}
+
+fn push_tallying<'a>(bytes: &'a [u8], chunk: usize, buffers: &'a Buffers) -> Side<'a> {
+    let mut tally = hns_port::Tally::new();
+    Box::new(move || {
+        let (mut store, mut output) = (buffers.store.borrow_mut(), buffers.output.borrow_mut());
+        let mut stream = port::FrameDecoder::new(port::NetworkMagic::Mainnet, &mut store);
+        for part in bytes.chunks(chunk) {
+            let delivered = stream.push_tallying(part, &mut output, tally.numbers_mut());
+            black_box(delivered.expect("good frames"));
+        }
+    })
 }
 
 fn walk_port(mut bytes: &[u8]) {

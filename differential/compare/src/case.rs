@@ -79,10 +79,12 @@ impl Kind {
     /// Its part of the random comparisons.
     pub const fn share(self) -> u64 {
         match self {
-            Self::Stream | Self::Rewrite | Self::Packet | Self::Write => 8,
+            // A push counts three times: itself with and without a tally, and two refusals of the tally.
+            Self::Stream => 24,
+            Self::Rewrite | Self::Packet | Self::Write => 8,
             Self::OwnedPacket | Self::OwnedFields | Self::OwnedFrame => 4,
             Self::FramePrefix | Self::FrameExact | Self::Reads | Self::Puts => 2,
-            Self::OwnedStream => 2,
+            Self::OwnedStream => 4,
             // It has 256 cases, and the limits take them all.
             Self::Card => 0,
             _ => 1,
@@ -111,7 +113,7 @@ impl Kind {
             Self::FramePrefix => "decode_frame_prefix",
             Self::FrameExact => "Frame::decode_exact",
             Self::FrameEncode => "Frame::encode (type, room)",
-            Self::Stream => "FrameDecoder::push (chunks)",
+            Self::Stream => "FrameDecoder::push, and a tally (chunks)",
             Self::Packet => "Packet::decode (type, room for the text)",
             Self::Item => "an item of a Packet (type, place, short)",
             Self::Find => "a hash among inventory (type, place, other)",
@@ -121,7 +123,7 @@ impl Kind {
             Self::OwnedPacket => "owned: Packet, read and written (type)",
             Self::OwnedFields => "owned: Packet of fields (type, seed)",
             Self::OwnedFrame => "owned: Frame of a packet (type, change)",
-            Self::OwnedStream => "owned: FrameDecoder::push (chunks)",
+            Self::OwnedStream => "owned: FrameDecoder::push, tally (chunks)",
             Self::Row => "rows by themselves (type, place)",
         }
     }

@@ -21,6 +21,7 @@ mod rows;
 pub mod rust;
 pub mod shrink;
 mod stream;
+mod tally;
 pub mod writes;
 
 use std::any::Any;

@@ -151,11 +151,11 @@ impl Run {
         println!("{total} comparisons, {kinds} kinds with a mismatch");
         let refused = |number: usize| rust::REFUSED[number].load(Ordering::Relaxed);
         println!(
-            "{} of them of the port alone: rows, what is carried, and 16 to 19, which the Rust lacks",
+            "{} of them of the port alone: rows, what is carried, and 16 to 20, which the Rust lacks",
             self.alone
         );
         print!("refusals by number, of which a comparison can have several:");
-        for number in (0..20).filter(|number| refused(*number) > 0) {
+        for number in (0..rust::REFUSED.len()).filter(|number| refused(*number) > 0) {
             print!(" {number}: {}", refused(number));
         }
         println!();

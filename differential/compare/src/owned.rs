@@ -1,8 +1,8 @@
 //! The owned packet, frame and stream: programs over the Rust's names, compiled once with each crate.
 
 use hns_p2p_wire::{
-    CompactBlockRequest, GetProofPacket, Inventory, InventoryKind, LocatorPacket, NetAddress,
-    Packet, RejectPacket, VersionPacket,
+    CompactBlockRequest, GetProofPacket, Inventory, InventoryKind, LocatorPacket,
+    MAX_STREAM_BUFFER_SIZE, NetAddress, Packet, RejectPacket, VersionPacket,
 };
 
 use crate::case::{Case, NETWORKS, Verdict};
@@ -11,6 +11,7 @@ use crate::packets::{CARRIED, decode, packet_error, packet_type};
 use crate::rng::Rng;
 use crate::rust;
 use crate::stream::LENGTH;
+use crate::tally::{Recount, too_great, with};
 use crate::writes;
 
 /// What users of the Rust write: only the crates' names differ.
@@ -115,6 +116,18 @@ macro_rules! program {
 
 program!(port, hns_port, hns_port);
 program!(wire, hns_p2p_wire, hns_primitives);
+
+/// The push that the Rust lacks, with its frames as `pushed` has them.
+fn counted(
+    stream: &mut hns_port::FrameDecoder,
+    chunk: &[u8],
+    tally: &mut hns_port::Tally,
+) -> Result<port::Frames, hns_port::Refusal> {
+    let frames = stream.push_tallying(chunk, tally)?.into_iter();
+    Ok(frames
+        .map(|frame| (frame.packet_type.as_u8(), frame.payload))
+        .collect())
+}
 
 macro_rules! same_constants {
     ($($name:ident)*) => {
@@ -253,26 +266,57 @@ fn sent(case: &Case, whole: &[u8]) -> Verdict {
     Verdict::of(&port, &rust.map_err(packet_error))
 }
 
-/// Chunks into both sides' streams: frames, refusals, and how much is held.
+/// Chunks into both sides' streams, into one of the port's with a tally: frames, refusals, how much is
+/// held, and the tally.
 pub fn stream(case: &Case) -> Verdict {
     let mut port = hns_port::FrameDecoder::new(NETWORKS[case.network]);
+    let (mut tallying, mut tally, mut recount) =
+        (port.clone(), hns_port::Tally::new(), Recount::new());
     let mut rust = hns_p2p_wire::FrameDecoder::new(rust::NETWORKS[case.network]);
     let mut rest = &case.bytes[..];
     let mut compared = 0;
     // A number with a mark is a push that is turned away for too little lent; here nothing is.
     let chunks = case.numbers.iter().filter(|number| **number <= LENGTH);
-    for number in chunks.chain([&u64::MAX]) {
+    for (turn, number) in chunks.chain([&u64::MAX]).enumerate() {
         let (chunk, after) = rest.split_at((*number).min(rest.len() as u64) as usize);
         rest = after;
         let frames = wire::pushed(&mut rust, chunk).map_err(rust::wire_error);
-        let pushed = Verdict::of(&port::pushed(&mut port, chunk), &frames);
-        let held = Verdict::of(&port.buffered_len(), &rust.buffered_len());
-        match all([pushed, held]) {
-            Verdict::Same(n) => compared += n,
-            other => return other,
+        for (packet_type, payload) in frames.iter().flatten() {
+            recount.add(*packet_type, payload);
+        }
+        let held = rust.buffered_len();
+        let turned_away = full(&mut tallying, chunk, turn);
+        let tallied = counted(&mut tallying, chunk, &mut tally);
+        let verdicts = [
+            Verdict::of(&port::pushed(&mut port, chunk), &frames),
+            Verdict::of(&port.buffered_len(), &held),
+            Verdict::of(&tallied, &frames),
+            Verdict::of(&tallying.buffered_len(), &held),
+            recount.check(tally.numbers()),
+        ];
+        match (turned_away, all(verdicts)) {
+            (Verdict::Same(alone), Verdict::Same(n)) => compared += alone + n,
+            (Verdict::Same(_), other) | (other, _) => return other,
         }
     }
-    Verdict::Same(compared)
+    match recount.check_calls(&tally) {
+        Verdict::Same(_) => Verdict::Same(compared),
+        other => other,
+    }
+}
+
+/// A push whose tally is full changes neither it nor the stream.
+fn full(stream: &mut hns_port::FrameDecoder, chunk: &[u8], turn: usize) -> Verdict {
+    let held = stream.buffered_len();
+    let total = held + chunk.len();
+    if total > MAX_STREAM_BUFFER_SIZE {
+        return Verdict::Same(0);
+    }
+    let numbers = with(too_great(turn, [0, 0], total));
+    let mut tally = hns_port::Tally::from(numbers);
+    let refused = stream.push_tallying(chunk, &mut tally);
+    let seen = (refused, *tally.numbers(), stream.buffered_len());
+    Verdict::of(&seen, &(Err(rust::refusal(20, 0, 0)), numbers, held))
 }
 
 // ---- the Rust's packet as the port's

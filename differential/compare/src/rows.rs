@@ -1,7 +1,7 @@
 //! Rows by themselves, as the header promises them: what follows the numbers that a row uses is 0, a
 //! row that does not fit is its front, and no other number changes.
 
-use hns_port::{PacketRow, Refusal, ffi};
+use hns_port::{PacketRow, Refusal, TALLY_SIZE, ffi};
 
 use crate::buffer::filled;
 use crate::case::{Case, Verdict};
@@ -75,9 +75,10 @@ pub fn check(case: &Case) -> Verdict {
     let mut store = filled(case.bytes.len());
     let mut numbers = [UNSET; ROOM];
     let (to, many) = (out.as_mut_ptr(), numbers.as_mut_ptr());
+    let mut tally = [0; TALLY_SIZE];
     let calls = [
         reads(case, to, many),
-        frames(case, to, store.as_mut_ptr()),
+        frames(case, to, store.as_mut_ptr(), tally.as_mut_ptr()),
         packets(case, to),
         lists(case, many),
         writers(case, to),
@@ -100,11 +101,16 @@ fn reads(case: &Case, to: *mut u8, many: *mut u64) -> Vec<Call<'_>> {
     ]
 }
 
-fn frames(case: &Case, to: *mut u8, store: *mut u8) -> Vec<Call<'_>> {
+fn frames(case: &Case, to: *mut u8, store: *mut u8, tally: *mut u64) -> Vec<Call<'_>> {
     let (input, len) = (case.bytes.as_ptr(), case.bytes.len());
     let (on, kind) = (case.network as u8, packet_type(case));
     let whole = |row: &[u64]| if row[1] == 1 { 5 } else { 2 };
     let pushed = call!(6, |_| 4, hns_push(on, store, len, 0, input, len, to, ROOM));
+    let tallied = call!(
+        6,
+        |_| 4,
+        hns_push_tallying(on, store, len, 0, input, len, to, ROOM, tally, TALLY_SIZE)
+    );
     vec![
         call!(6, whole, hns_decode_frame_prefix(on, input, len)),
         call!(6, |_| 3, hns_decode_exact(on, input, len)),
@@ -113,6 +119,11 @@ fn frames(case: &Case, to: *mut u8, store: *mut u8) -> Vec<Call<'_>> {
         Call {
             refused: 5,
             ..pushed
+        },
+        // And here before them.
+        Call {
+            refused: 6,
+            ..tallied
         },
     ]
 }

@@ -15,7 +15,7 @@ pub const NETWORKS: [NetworkMagic; 4] = [
 ];
 
 /// How often each refusal was the answer.
-pub static REFUSED: [AtomicU64; 20] = [const { AtomicU64::new(0) }; 20];
+pub static REFUSED: [AtomicU64; 21] = [const { AtomicU64::new(0) }; 21];
 
 pub fn refusal(number: u64, a: u64, b: u64) -> Refusal {
     REFUSED[number as usize].fetch_add(1, Ordering::Relaxed);
