@@ -149,7 +149,7 @@ fn send_compact_from(mode: Number, version: Number, end: Finished) -> SendCompac
     }
 }
 
-// Type 22: mode 1, version 8, and no byte after them; 5 is for `read_packet` to test. It takes a plain slice, so that its callers need no proof by hand.
+// Type 22: mode 1, version 8, and no byte after them; 21, 22 and 5 are for `admit` to test. It takes a plain slice, so that its callers need no proof by hand.
 pub fn read_send_compact(payload: &[u8]) -> SendCompact
     ensures { λ r. ⌜ r ≡ sendCompactOf (toEnd (read (num 1 ▸ num 8)) (now (payload .entry))) ⌝ }
 {

@@ -1,4 +1,5 @@
-// Payloads without counts: each is one test of the length, and then numbers at known places.
+// Fields of payloads without counts: each is one test of the length, and then numbers at known places. What is tested before
+// the fields is not tested here.
 use hns_p2p_types::GetProofPacket;
 use hns_p2p_types::Hash;
 use hns_p2p_types::NET_ADDRESS_SIZE;
@@ -67,13 +68,13 @@ fn eight(payload: &[u8], packet: Packet) -> Packet
     block(payload, &[8], 8, packet)
 }
 
-pub fn read_ping(payload: &[u8]) -> Packet
+pub fn read_ping_fields(payload: &[u8]) -> Packet
     ensures { λ r. ⌜ r ≡ fieldsOf 2 (now (payload .entry)) ⌝ }
 {
     eight(payload, Packet::Ping(hns_encoding::u64_at(payload, 0)))
 }
 
-pub fn read_pong(payload: &[u8]) -> Packet
+pub fn read_pong_fields(payload: &[u8]) -> Packet
     ensures { λ r. ⌜ r ≡ fieldsOf 3 (now (payload .entry)) ⌝ }
 {
     eight(payload, Packet::Pong(hns_encoding::u64_at(payload, 0)))
@@ -91,14 +92,14 @@ pub fn signed_of(v: u64) -> i64
     }
 }
 
-pub fn read_feefilter(payload: &[u8]) -> Packet
+pub fn read_feefilter_fields(payload: &[u8]) -> Packet
     ensures { λ r. ⌜ r ≡ fieldsOf 21 (now (payload .entry)) ⌝ }
 {
     let rate = signed_of(hns_encoding::u64_at(payload, 0));
     eight(payload, Packet::FeeFilter(rate))
 }
 
-pub fn read_sendcmpct(payload: &[u8]) -> Packet
+pub fn read_sendcmpct_fields(payload: &[u8]) -> Packet
     ensures { λ r. ⌜ r ≡ fieldsOf 22 (now (payload .entry)) ⌝ }
 {
     let mode = hns_encoding::u8_at(payload, 0);
@@ -106,7 +107,7 @@ pub fn read_sendcmpct(payload: &[u8]) -> Packet
     block(payload, &[1, 8], 9, Packet::SendCmpct { mode, version })
 }
 
-pub fn read_getproof(payload: &[u8]) -> Packet
+pub fn read_getproof_fields(payload: &[u8]) -> Packet
     ensures { λ r. ⌜ r ≡ fieldsOf 26 (now (payload .entry)) ⌝ }
 {
     let packet = GetProofPacket { root: 0, key: 32 };
@@ -145,7 +146,7 @@ pub fn address_at(payload: &[u8], at: usize) -> NetAddress
     }
 }
 
-pub fn read_version(payload: &[u8]) -> Packet
+pub fn read_version_fields(payload: &[u8]) -> Packet
     ensures { λ r. ⌜ r ≡ fieldsOf 0 (now (payload .entry)) ⌝ }
 {
     let length = hns_encoding::u8_at(payload, 116) as usize;
@@ -165,7 +166,7 @@ pub fn read_version(payload: &[u8]) -> Packet
 }
 
 // A reject with its hash, or without, by its type.
-pub fn read_reject(payload: &[u8]) -> Packet
+pub fn read_reject_fields(payload: &[u8]) -> Packet
     ensures { λ r. ⌜ r ≡ fieldsOf 15 (now (payload .entry)) ⌝ }
 {
     let message = hns_encoding::u8_at(payload, 0);

@@ -24,8 +24,9 @@ use Rattle.hns_p2p_types.specs.declared.Found.{Found}
 use Rattle.hns_p2p_types.specs.declared.Found.the-variants as F
 use Rattle.hns_p2p_types.specs.declared.Item.{Item}
 use Rattle.hns_p2p_types.specs.declared.Item.the-variants as I
-use Rattle.hns_p2p_items.specs.Items.{Element, anInventory, anIndex, Listed, listedOf, Stands, key-there, hash-there, bytes-there, header-there, index-there}
-use Rattle.hns_p2p_items.specs.Listings.{listingOf, Records, Holds, HeldBy}
+use Rattle.hns_p2p_rights.specs.Terms.{Terms}
+use Rattle.hns_p2p_items.specs.Items.{Element, anInventory, anIndex, Listed, listedOf, listedUnder, Stands, key-there, hash-there, bytes-there, header-there, index-there}
+use Rattle.hns_p2p_items.specs.Listings.{listingUnder, Records, Holds, HeldBy}
 use Rattle.hns_p2p_items.proofs.Held.{held-by, refused-held}
 use Rattle.hns_p2p_items.proofs.Items.{records-many, nth-record, stands}
 use Rattle.hns_p2p_find.specs.Find.{Is, Has, Finds, NoneExactly, ItemThere, FoundItem}
@@ -157,23 +158,23 @@ finds-refusal h r = record { finds = refl; lowest = tt }
 
 -- ---- the answers of `lowest`
 
-module _ (t : ℕ) (s : List ℕ) (bs : Bytes s) {list : Listing} (e : list ≡ listingOf t s) where
-  by : HeldBy s list (listedOf t s)
-  by = held-by t s bs e
+module _ (u : Terms) (t : ℕ) (s : List ℕ) (bs : Bytes s) {list : Listing} (e : list ≡ listingUnder u t s) where
+  by : HeldBy s list (listedUnder u t s)
+  by = held-by u t s bs e
 
-  pub find-none : (h : List ℕ) → OneOf without (tagOf listings.the-type list) → FindsLowest (listedOf t s) h F.Nowhere
-  find-none h k = nowhere s list (listedOf t s) h by k
+  pub find-none : (h : List ℕ) → OneOf without (tagOf listings.the-type list) → FindsLowest (listedUnder u t s) h F.Nowhere
+  find-none h k = nowhere s list (listedUnder u t s) h by k
 
-  pub find-refused : (h : List ℕ) {r : Refusal} → list ≡ L.Refused r → FindsLowest (listedOf t s) h (F.Refused r)
-  find-refused h {r} g = rw (refused-held s (listedOf t s) by g) (finds-refusal h r)
+  pub find-refused : (h : List ℕ) {r : Refusal} → list ≡ L.Refused r → FindsLowest (listedUnder u t s) h (F.Refused r)
+  find-refused h {r} g = rw (refused-held s (listedUnder u t s) by g) (finds-refusal h r)
 
   module _ {i : Items} (g : list ≡ L.Inventory i) where
     pub find-inside : i .first + i .count * 36 ≤ length s
-    find-inside = inventory-held s (listedOf t s) by g .3 .inside
+    find-inside = inventory-held s (listedUnder u t s) by g .3 .inside
 
-    pub find-scanned : (h : List ℕ) {f : Found} → Scanned s (i .first) (i .count) h f → FindsLowest (listedOf t s) h f
+    pub find-scanned : (h : List ℕ) {f : Found} → Scanned s (i .first) (i .count) h f → FindsLowest (listedUnder u t s) h f
     find-scanned h {f} q =
-        let k = inventory-held s (listedOf t s) by g in
+        let k = inventory-held s (listedUnder u t s) by g in
         rw (k .2) (scanned-finds (k .3) h (k .1) f q)
 
 -- ---- what the finder's answers say

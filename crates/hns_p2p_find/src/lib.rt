@@ -4,7 +4,8 @@ use hns_p2p_types::Listing;
 ghost use mathlib.Core.Path.{_≡_};
 ghost use Prim.Native.Nat.{_+_, _*_, _≤_};
 ghost use lib.ListN.{length};
-ghost use Rattle.hns_p2p_items.specs.Items.{listedOf};
+ghost use Rattle.hns_p2p_rights.specs.Terms.{termsOf};
+ghost use Rattle.hns_p2p_items.specs.Items.{listedUnder};
 ghost use Rattle.hns_p2p_find.specs.Find.{Finds};
 ghost use Rattle.hns_p2p_find.specs.Helpers.{FindsLowest, agree, Scanned};
 
@@ -51,10 +52,10 @@ fn scan(payload: &[u8], first: usize, count: usize, hash: [u8; 32]) -> Found
 }
 
 // The lowest place of an inventory item with the hash.
-fn lowest(packet_type: u8, payload: &[u8], hash: [u8; 32]) -> Found
-    ensures { λ r. ⌜ FindsLowest (listedOf «packet_type» (now (payload .entry))) hash r ⌝ }
+fn lowest(terms: &[u64], packet_type: u8, payload: &[u8], hash: [u8; 32]) -> Found
+    ensures { λ r. ⌜ FindsLowest (listedUnder (termsOf (now (terms .entry))) «packet_type» (now (payload .entry))) hash r ⌝ }
 {
-    let list = hns_p2p_items::listing(packet_type, payload);
+    let list = hns_p2p_items::listing(terms, packet_type, payload);
     match list {
         Listing::Inventory(items) => scan(payload, items.first, items.count, hash),
         Listing::Refused(refusal) => Found::Refused(refusal),
@@ -64,8 +65,8 @@ fn lowest(packet_type: u8, payload: &[u8], hash: [u8; 32]) -> Found
 
 // A place of an inventory item with the hash; none, if and only if no item has it; or why the payload was refused.
 // Document 01 leaves open which of several places it is, so the contract states the place by its property.
-pub fn find(packet_type: u8, payload: &[u8], hash: [u8; 32]) -> Found
-    ensures { λ r. ⌜ Finds (listedOf «packet_type» (now (payload .entry))) hash r ⌝ }
+pub fn find(terms: &[u64], packet_type: u8, payload: &[u8], hash: [u8; 32]) -> Found
+    ensures { λ r. ⌜ Finds (listedUnder (termsOf (now (terms .entry))) «packet_type» (now (payload .entry))) hash r ⌝ }
 {
-    lowest(packet_type, payload, hash)
+    lowest(terms, packet_type, payload, hash)
 }

@@ -20,8 +20,7 @@ use Rattle.hns_encoding.proofs.Puts.{splice-none, splice-cons}
 use Rattle.hns_encoding.proofs.Forms.{Wide, two, four, eight, wide-from, First as FirstByte, alone, leads, first}
 use Rattle.hns_encoding.proofs.Reading.{number-there}
 use Rattle.hns_p2p_differences.proofs.Differences.{one-byte, two-number}
-use Rattle.hns_p2p_types.proofs.Payloads.{by-got}
-use Rattle.hns_p2p_types.specs.Protocol.{getblocktxn, always, readBy}
+use Rattle.hns_p2p_types.specs.Protocol.{getblocktxn}
 use Rattle.hns_p2p_types.specs.declared.Items.{Items}
 use Rattle.hns_p2p_types.specs.declared.Listing.{Listing}
 use Rattle.hns_p2p_types.specs.declared.Listing.the-variants as L
@@ -29,11 +28,14 @@ use Rattle.hns_p2p_types.proofs.Listing as listings
 use Rattle.hns_p2p_types.specs.declared.Packet.the-variants as P
 use Rattle.hns_p2p_types.specs.declared.Stored.{Stored}
 use Rattle.hns_p2p_types.specs.declared.Stored.the-variants as S
-use Rattle.hns_p2p_types.specs.Packets.{itemsAt, row, rows, answered, packetOf}
-use Rattle.hns_p2p_items.specs.Listings.{listIn, listingOf, Indexed}
+use Rattle.hns_p2p_types.specs.Packets.{itemsAt, row, rows, answered}
+use Rattle.hns_p2p_rights.specs.Terms.{Terms}
+use Rattle.hns_p2p_admission.specs.Reading.{readUnder, packetUnder}
+use Rattle.hns_p2p_admission.proofs.Admitted.{under-got}
+use Rattle.hns_p2p_items.specs.Listings.{listIn, listingUnder, Indexed}
 use Rattle.hns_p2p_items.proofs.Held.{indexed-there}
 use Rattle.hns_p2p_items.proofs.Items.{First, first-of}
-use Rattle.hns_p2p_indexes.specs.Indexes.{Answer, storedBy, storedOf}
+use Rattle.hns_p2p_indexes.specs.Indexes.{Answer, storedBy, requestUnder, storedUnder}
 use Rattle.hns_p2p_indexes.specs.Helpers.{Reads, StepThere, indexesOf}
 
 -- ---- a difference that reads
@@ -169,14 +171,12 @@ abbrev Seen : List ℕ → Listing → Outcome (Value getblocktxn) → Type 0
 Seen s list (got v last) = (list ≡ L.Indexes (itemsAt 32 (v .1))) × Indexed s (itemsAt 32 (v .1)) (v .1)
 Seen s list (stop r) = list ≡ L.Refused r
 
-seen : (s : List ℕ) → Bytes s → Seen s (listingOf 24 s) (readBy (always getblocktxn) s)
-unfolding listingOf listIn packetOf row rows readBy
-seen s bs = go (readBy (always getblocktxn) s) refl
+seen : (u : Terms) (s : List ℕ) → Bytes s → Seen s (listingUnder u 24 s) (requestUnder u s)
+unfolding listingUnder listIn packetUnder requestUnder row rows
+seen u s bs = go (readUnder u 24 s) refl
   where
-    go : (o : Outcome (Value getblocktxn)) → readBy (always getblocktxn) s ≡ o → Seen s (listIn (answered (λ v. P.GetBlockTxn (record { «block_hash» = 0; indexes = itemsAt 32 (v .1) })) o)) o
-    go (got v last) e =
-        let k = by-got (always getblocktxn) s e in
-        (refl, indexed-there s bs v (toEnd-got (read getblocktxn) s (k .1) .0))
+    go : (o : Outcome (Value getblocktxn)) → readUnder u 24 s ≡ o → Seen s (listIn (answered (λ v. P.GetBlockTxn (record { «block_hash» = 0; indexes = itemsAt 32 (v .1) })) o)) o
+    go (got v last) e = (refl, indexed-there s bs v (toEnd-got (read getblocktxn) s (under-got u 24 s e .whole) .0))
     go (stop r) e = refl
 
 refused-seen : (s : List ℕ) {list : Listing} {r : Refusal} (q : Outcome (Value getblocktxn)) → Seen s list q → list ≡ L.Refused r → q ≡ stop r
@@ -208,8 +208,8 @@ never-other s list (stop r) x k = miss others 6 tt (rw x at k)
 -- ---- the answers of `indexes`
 
 -- an answer and the output after it
-abbrev pub Answers : List ℕ → List ℕ → Stored → List ℕ → Type 0
-Answers s o answer output = (answer ≡ storedOf s o .answer) × (output ≡ storedOf s o .output)
+abbrev pub Answers : Terms → List ℕ → List ℕ → Stored → List ℕ → Type 0
+Answers u s o answer output = (answer ≡ storedUnder u s o .answer) × (output ≡ storedUnder u s o .output)
 
 answers : {a : Stored} {o′ : List ℕ} {x : Answer} → record { answer = a; output = o′ } ≡ x → (a ≡ x .answer) × (o′ ≡ x .output)
 answers e = (ap (λ (x : Answer). x .answer) e, ap (λ (x : Answer). x .output) e)
@@ -225,29 +225,29 @@ module _ (o : List ℕ) (v : Value getblocktxn) (last n : ℕ) (many : n ≡ len
       let fits : length (v .1) ≤ length o = omega arith in
       rw (k, many, le-leb (length (v .1)) (length o) fits)
 
-module _ (s : List ℕ) (bs : Bytes s) {list : Listing} (e : list ≡ listingOf 24 s) where
-  by : Seen s list (readBy (always getblocktxn) s)
-  by = subst (λ (l : Listing). Seen s l (readBy (always getblocktxn) s)) (sym e) (seen s bs)
+module _ (u : Terms) (s : List ℕ) (bs : Bytes s) {list : Listing} (e : list ≡ listingUnder u 24 s) where
+  by : Seen s list (requestUnder u s)
+  by = subst (λ (l : Listing). Seen s l (requestUnder u s)) (sym e) (seen u s bs)
 
-  pub indexes-refused : (o : List ℕ) {r : Refusal} → list ≡ L.Refused r → Answers s o (S.Refused r) o
-  unfolding storedOf
-  indexes-refused o g = answers (rw (refused-seen s (readBy (always getblocktxn) s) by g))
+  pub indexes-refused : (o : List ℕ) {r : Refusal} → list ≡ L.Refused r → Answers u s o (S.Refused r) o
+  unfolding storedUnder
+  indexes-refused o g = answers (rw (refused-seen s (requestUnder u s) by g))
 
   pub indexes-only : OneOf others (tagOf listings.the-type list) → ⊥
-  indexes-only k = never-other s list (readBy (always getblocktxn) s) by k
+  indexes-only k = never-other s list (requestUnder u s) by k
 
   module _ {i : Items} (g : list ≡ L.Indexes i) where
-    r : Read s i (readBy (always getblocktxn) s)
-    r = indexes-seen s (readBy (always getblocktxn) s) by g
+    r : Read s i (requestUnder u s)
+    r = indexes-seen s (requestUnder u s) by g
 
     pub indexes-read : Reads (i .count) 0 s (i .first)
     indexes-read = record { indexes = r .value .1; last = r .indexed .last; reads = r .indexed .reads }
 
-    pub indexes-short : (o : List ℕ) → length o < i .count → {q : Refusal} → q ≡ outputShort (i .count) → Answers s o (S.Refused q) o
-    unfolding storedOf
+    pub indexes-short : (o : List ℕ) → length o < i .count → {q : Refusal} → q ≡ outputShort (i .count) → Answers u s o (S.Refused q) o
+    unfolding storedUnder
     indexes-short o h k = answers (short-by o (r .value) (r .last) (i .count) (r .many) h k ∙ sym (ap (λ (q : Outcome (Value getblocktxn)). storedBy q o) (r .is)))
 
-    pub indexes-fit : (o : List ℕ) → i .count ≤ length o → {o′ : List ℕ} → o′ ≡ splice o 0 (indexesOf (indexesFrom (i .count) 0 s (i .first))) → Answers s o (S.Count (i .count)) o′
-    unfolding storedOf
+    pub indexes-fit : (o : List ℕ) → i .count ≤ length o → {o′ : List ℕ} → o′ ≡ splice o 0 (indexesOf (indexesFrom (i .count) 0 s (i .first))) → Answers u s o (S.Count (i .count)) o′
+    unfolding storedUnder
     indexes-fit o h k =
         answers (fit-by o (r .value) (r .last) (i .count) (r .many) h (k ∙ ap (λ (q : Outcome (List ℕ)). splice o 0 (indexesOf q)) (r .indexed .reads)) ∙ sym (ap (λ (q : Outcome (Value getblocktxn)). storedBy q o) (r .is)))

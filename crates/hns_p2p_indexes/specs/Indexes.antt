@@ -11,6 +11,8 @@ use Rattle.hns_p2p_types.specs.Protocol.{getblocktxn, readBy}
 use Rattle.hns_p2p_types.specs.Packets.{rows, row, layout}
 use Rattle.hns_p2p_types.specs.declared.Stored.{Stored}
 use Rattle.hns_p2p_types.specs.declared.Stored.the-variants as S
+use Rattle.hns_p2p_rights.specs.Terms.{Terms}
+use Rattle.hns_p2p_admission.specs.Reading.{readUnder}
 
 pub record Answer : Type 0 where
   pub answer : Stored
@@ -30,3 +32,11 @@ storedBy (stop r) o = record { answer = S.Refused r; output = o }
 unfoldable pub storedOf : List ℕ → List ℕ → Answer
 unfolding row rows
 storedOf s o = storedBy (readBy (layout 24) s) o
+
+-- the same of a payload that is read under terms
+unfoldable pub requestUnder : Terms → List ℕ → Outcome (Value getblocktxn)
+unfolding row rows
+requestUnder u s = readUnder u 24 s
+
+unfoldable pub storedUnder : Terms → List ℕ → List ℕ → Answer
+storedUnder u s o = storedBy (requestUnder u s) o

@@ -11,7 +11,8 @@ ghost use Rattle.hns_encoding.specs.Bytes.{got};
 ghost use Rattle.hns_encoding.specs.Compact.{countAt};
 ghost use Rattle.hns_encoding.specs.Format.{indexesFrom};
 ghost use Rattle.hns_encoding.specs.Put.{splice};
-ghost use Rattle.hns_p2p_indexes.specs.Indexes.{storedOf};
+ghost use Rattle.hns_p2p_rights.specs.Terms.{termsOf};
+ghost use Rattle.hns_p2p_indexes.specs.Indexes.{storedUnder};
 ghost use Rattle.hns_p2p_indexes.specs.Helpers.{Reads, StepThere, indexesOf};
 
 // A difference and the place after it.
@@ -62,11 +63,11 @@ fn store(payload: &[u8], count: usize, first: usize, out: &mut [u64])
 
 // The indexes of a getblocktxn payload to the front of `out`: the payload's refusal, then 16 with the places needed; what is
 // refused writes nothing.
-pub fn indexes(payload: &[u8], out: &mut [u64]) -> Stored
-    ensures { λ r. ⌜ r ≡ storedOf (now (payload .entry)) (now (out .entry)) .answer ⌝ }
-    ensures { λ _. ⌜ now (out .exit) ≡ storedOf (now (payload .entry)) (now (out .entry)) .output ⌝ }
+pub fn indexes(terms: &[u64], payload: &[u8], out: &mut [u64]) -> Stored
+    ensures { λ r. ⌜ r ≡ storedUnder (termsOf (now (terms .entry))) (now (payload .entry)) (now (out .entry)) .answer ⌝ }
+    ensures { λ _. ⌜ now (out .exit) ≡ storedUnder (termsOf (now (terms .entry))) (now (payload .entry)) (now (out .entry)) .output ⌝ }
 {
-    let list = hns_p2p_items::listing(24, payload);
+    let list = hns_p2p_items::listing(terms, 24, payload);
     match list {
         Listing::Indexes(items) => {
             let count = items.count;

@@ -28,11 +28,12 @@ use Rattle.hns_p2p_types.specs.declared.Stored.the-variants as S
 use Rattle.hns_p2p_types.proofs.Listing as listings
 use Rattle.hns_p2p_types.specs.Packets.{addressIn, addressNumbers, inventoryNumbers}
 use Rattle.hns_p2p_blocks.proofs.Addresses.{address-is}
-use Rattle.hns_p2p_items.specs.Items.{Element, anAddress, anInventory, aHash, aHeader, anIndex, Listed, sizeOf, answer, answerAt, listedOf}
-use Rattle.hns_p2p_items.specs.Listings.{listingOf, Records, Holds, HeldBy}
+use Rattle.hns_p2p_rights.specs.Terms.{Terms}
+use Rattle.hns_p2p_items.specs.Items.{Element, anAddress, anInventory, aHash, aHeader, anIndex, Listed, sizeOf, answer, answerAt, listedUnder}
+use Rattle.hns_p2p_items.specs.Listings.{listingUnder, Records, Holds, HeldBy}
 use Rattle.hns_p2p_items.proofs.Held.{held-by, refused-held}
 use Rattle.hns_p2p_indexes.specs.Indexes.{Answer, fitted}
-use Rattle.hns_p2p_item_numbers.specs.Numbers.{itemNumbers, numbersAfter, numbersBy, numbersOf}
+use Rattle.hns_p2p_item_numbers.specs.Numbers.{itemNumbers, numbersAfter, numbersBy, numbersUnder}
 use Rattle.hns_p2p_item_numbers.specs.Helpers.{bytesEach, numbersEach, numbersAt, numbersFrom}
 
 -- ---- stores one after another
@@ -223,23 +224,23 @@ of-others s (L.Addresses i) o l r k = absurd (miss others 0 tt k)
 of-others s (L.Inventory i) o l r k = absurd (miss others 1 tt k)
 of-others s (L.Refused q) o l r k = absurd r
 
-module _ (t : ℕ) (s : List ℕ) (bs : Bytes s) {list : Listing} (e : list ≡ listingOf t s) where
-  pub numbers-shape : (b : Bool) (i : Items) → list ≡ shaped b i → Shaped b s i (listedOf t s)
-  numbers-shape b i g = by-shape b s i (listedOf t s) (subst (λ (q : Listing). HeldBy s q (listedOf t s)) g (held-by t s bs e))
+module _ (u : Terms) (t : ℕ) (s : List ℕ) (bs : Bytes s) {list : Listing} (e : list ≡ listingUnder u t s) where
+  pub numbers-shape : (b : Bool) (i : Items) → list ≡ shaped b i → Shaped b s i (listedUnder u t s)
+  numbers-shape b i g = by-shape b s i (listedUnder u t s) (subst (λ (q : Listing). HeldBy s q (listedUnder u t s)) g (held-by u t s bs e))
 
-  pub numbers-refused : (o : List ℕ) {r : Refusal} → list ≡ L.Refused r → Answers (numbersOf t s o) (S.Refused r) o
-  unfolding numbersOf
-  numbers-refused o g = let a = refused-held s (listedOf t s) (held-by t s bs e) g in (rw a, rw a)
+  pub numbers-refused : (o : List ℕ) {r : Refusal} → list ≡ L.Refused r → Answers (numbersUnder u t s o) (S.Refused r) o
+  unfolding numbersUnder
+  numbers-refused o g = let a = refused-held s (listedUnder u t s) (held-by u t s bs e) g in (rw a, rw a)
 
-  pub numbers-none : (o : List ℕ) → OneOf others (tagOf listings.the-type list) → Answers (numbersOf t s o) (S.Count 0) o
-  unfolding numbersOf
-  numbers-none o k = go (listedOf t s) (held-by t s bs e)
+  pub numbers-none : (o : List ℕ) → OneOf others (tagOf listings.the-type list) → Answers (numbersUnder u t s o) (S.Count 0) o
+  unfolding numbersUnder
+  numbers-none o k = go (listedUnder u t s) (held-by u t s bs e)
     where
       go : (q : Outcome Listed) → HeldBy s list q → Answers (numbersBy q o) (S.Count 0) o
       go (got l last) x = no-numbers o l (of-others s list o l (x .0) k)
       go (stop r) x = absurd (miss others 6 tt (rw x at k))
 
   module _ (b : Bool) (i : Items) (g : list ≡ shaped b i) (o : List ℕ) {a : Stored} {o′ : List ℕ} where
-    pub numbers-all : a ≡ fitted (numbersFrom b s (i .count) (i .first)) o .answer → o′ ≡ fitted (numbersFrom b s (i .count) (i .first)) o .output → Answers (numbersOf t s o) a o′
-    unfolding numbersOf
+    pub numbers-all : a ≡ fitted (numbersFrom b s (i .count) (i .first)) o .answer → o′ ≡ fitted (numbersFrom b s (i .count) (i .first)) o .output → Answers (numbersUnder u t s o) a o′
+    unfolding numbersUnder
     numbers-all x y = let k = numbers-shape b i g .same o in (x ∙ ap (λ (z : Answer). z .answer) k, y ∙ ap (λ (z : Answer). z .output) k)

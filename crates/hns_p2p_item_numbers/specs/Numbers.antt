@@ -6,7 +6,8 @@ use Rattle.hns_p2p_types.specs.declared.Item.{Item}
 use Rattle.hns_p2p_types.specs.declared.Item.the-variants as I
 use Rattle.hns_p2p_types.specs.declared.Stored.the-variants as S
 use Rattle.hns_p2p_types.specs.Packets.{addressNumbers, inventoryNumbers}
-use Rattle.hns_p2p_items.specs.Items.{Element, Listed, answerAt, listedOf}
+use Rattle.hns_p2p_rights.specs.Terms.{Terms}
+use Rattle.hns_p2p_items.specs.Items.{Element, Listed, answerAt, listedOf, listedUnder}
 use Rattle.hns_p2p_indexes.specs.Indexes.{Answer, fitted}
 
 -- hashes and headers stand one after another from the first place on, and indexes have their own call
@@ -31,3 +32,7 @@ numbersBy (stop r) o = record { answer = S.Refused r; output = o }
 -- of a payload s of type t, with the output o
 unfoldable pub numbersOf : ℕ → List ℕ → List ℕ → Answer
 numbersOf t s o = numbersBy (listedOf t s) o
+
+-- the same of a payload that is read under terms
+unfoldable pub numbersUnder : Terms → ℕ → List ℕ → List ℕ → Answer
+numbersUnder u t s o = numbersBy (listedUnder u t s) o

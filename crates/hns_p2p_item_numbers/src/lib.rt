@@ -11,8 +11,9 @@ ghost use Prim.Native.Nat.{_+_, _*_, _≤_};
 ghost use lib.ListN.{length};
 ghost use Rattle.hns_refusals.specs.Limits.{maxPayload};
 ghost use Rattle.hns_encoding.specs.Put.{splice};
+ghost use Rattle.hns_p2p_rights.specs.Terms.{termsOf};
 ghost use Rattle.hns_p2p_indexes.specs.Indexes.{fitted};
-ghost use Rattle.hns_p2p_item_numbers.specs.Numbers.{numbersOf};
+ghost use Rattle.hns_p2p_item_numbers.specs.Numbers.{numbersUnder};
 ghost use Rattle.hns_p2p_item_numbers.specs.Helpers.{bytesEach, numbersEach, numbersAt, numbersFrom};
 
 // How many bytes an item takes, and how many numbers it has: addresses, or inventory items.
@@ -96,11 +97,11 @@ fn put_all(payload: &[u8], addresses: bool, items: Items, out: &mut [u64]) -> St
 
 // The numbers of the items of a payload of a type side by side to the front of `out`, and how many they are: the payload's
 // refusal, then 16 with the places needed; what is refused writes nothing. Types without addresses or inventory items have none.
-pub fn item_numbers(packet_type: u8, payload: &[u8], out: &mut [u64]) -> Stored
-    ensures { λ r. ⌜ r ≡ numbersOf «packet_type» (now (payload .entry)) (now (out .entry)) .answer ⌝ }
-    ensures { λ _. ⌜ now (out .exit) ≡ numbersOf «packet_type» (now (payload .entry)) (now (out .entry)) .output ⌝ }
+pub fn item_numbers(terms: &[u64], packet_type: u8, payload: &[u8], out: &mut [u64]) -> Stored
+    ensures { λ r. ⌜ r ≡ numbersUnder (termsOf (now (terms .entry))) «packet_type» (now (payload .entry)) (now (out .entry)) .answer ⌝ }
+    ensures { λ _. ⌜ now (out .exit) ≡ numbersUnder (termsOf (now (terms .entry))) «packet_type» (now (payload .entry)) (now (out .entry)) .output ⌝ }
 {
-    let list = hns_p2p_items::listing(packet_type, payload);
+    let list = hns_p2p_items::listing(terms, packet_type, payload);
     match list {
         Listing::Addresses(items) => put_all(payload, true, items, out),
         Listing::Inventory(items) => put_all(payload, false, items, out),

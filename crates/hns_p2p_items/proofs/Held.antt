@@ -10,24 +10,26 @@ use Rattle.hns_encoding.proofs.Blocks.{length-values}
 use Rattle.hns_refusals.specs.declared.Refusal.{Refusal}
 use Rattle.hns_refusals.specs.Limits.{maxPayload, blockHeaderSize, maxAddresses, maxInventory, maxLocator, maxHeaders, maxIndexes}
 use Rattle.hns_refusals.specs.Refusals.{addressField, inventoryField, locatorField, headerField, indexCountField}
-use Rattle.hns_encoding.specs.Bytes.{Bytes, Outcome, got, stop, after, left, bytesAt, toEnd}
+use Rattle.hns_encoding.specs.Bytes.{Bytes, Outcome, got, stop, left, bytesAt, toEnd}
 use Rattle.hns_encoding.specs.Compact.{compactBytes, countAt}
 use Rattle.hns_encoding.specs.Format.{Format, raw, counted, indexes, whole, Value, read, many, indexesFrom, widths, size, Fixed, All, valuesAt}
 use Rattle.hns_encoding.proofs.Outcomes.{after-got, choose-got, bytes-got, toEnd-got, count-got}
 use Rattle.hns_encoding.proofs.Forward.{compact-got}
 use Rattle.hns_header_consensus.specs.Layout.{header}
-use Rattle.hns_p2p_types.proofs.Payloads.{by-got}
-use Rattle.hns_p2p_types.specs.Protocol.{address, inventoryItem, locator, getblocktxn, readBy}
+use Rattle.hns_p2p_types.specs.Protocol.{address, inventoryItem, locator, getblocktxn}
 use Rattle.hns_p2p_types.specs.declared.Listing.{Listing}
 use Rattle.hns_p2p_types.specs.declared.Listing.the-variants as L
 use Rattle.hns_p2p_types.specs.declared.Packet.the-variants as P
-use Rattle.hns_p2p_types.specs.Packets.{Row, rows, rawBytes, row, layout, answered, packetOf, itemsAt, _&_, entry}
+use Rattle.hns_p2p_types.specs.Packets.{Row, rows, rawBytes, row, layout, answered, itemsAt, _&_, entry}
+use Rattle.hns_p2p_rights.specs.Terms.{Terms}
+use Rattle.hns_p2p_admission.specs.Reading.{readUnder, packetUnder}
+use Rattle.hns_p2p_admission.proofs.Admitted.{under-got}
 use Rattle.hns_p2p_lists.specs.Helpers.{recordsAt}
 use Rattle.hns_p2p_lists.proofs.Lists.{many-fits, records}
 use Rattle.hns_p2p_lists.proofs.Listed.{count-place, list-stands}
 use Rattle.hns_p2p_lists.proofs.Requests.{index-count}
-use Rattle.hns_p2p_items.specs.Items.{Element, anAddress, anInventory, aHash, aHeader, Listed, under, items, RowItems, none, rowItems, itemsBy, listedOf}
-use Rattle.hns_p2p_items.specs.Listings.{listIn, listingOf, Records, Indexed, Indexes, Holds, HeldBy, ListingHolds}
+use Rattle.hns_p2p_items.specs.Items.{Element, anAddress, anInventory, aHash, aHeader, Listed, under, items, RowItems, none, rowItems, itemsBy, listedBy, listedUnder}
+use Rattle.hns_p2p_items.specs.Listings.{listIn, listingUnder, Records, Indexed, Indexes, Holds, HeldBy, ListingHolds}
 use Rattle.hns_p2p_items.specs.Helpers.{itemsIn}
 
 -- ---- lists of items of a fixed size
@@ -144,18 +146,22 @@ row-held t = both-at RowItems Held rows (rawBytes (P.Unknown t)) t rowItems none
 
 -- ---- a payload
 
-pub held : ListingHolds
-unfolding listingOf listedOf packetOf readBy listIn
-held t s bs = go (readBy (layout t) s) refl
-  where
-    go : (o : Outcome (Value (layout t (length s)))) → readBy (layout t) s ≡ o → HeldBy s (listIn (answered (row t .packet s) o)) (after o (λ v last. got (itemsBy t .listed (length s) v) last))
-    go (got v last) e =
-        let k = by-got (layout t) s e in
-        (row-held t .holds s bs v last (k .1), k .0)
-    go (stop r) e = refl
+-- of any reading that gives what the fields read as, of no more bytes than a payload may have
+pub held-from : (t : ℕ) (s : List ℕ) → Bytes s → (q : Outcome (Value (layout t (length s))))
+    → ((v : Value (layout t (length s))) (last : ℕ) → q ≡ got v last → (length s ≤ maxPayload) × (toEnd (read (layout t (length s))) s ≡ got v last))
+    → HeldBy s (listIn (answered (row t .packet s) q)) (listedBy t s q)
+unfolding listIn
+held-from t s bs (got v last) reads =
+    let k = reads v last refl in
+    (row-held t .holds s bs v last (k .1), k .0)
+held-from t s bs (stop r) reads = refl
 
-pub held-by : (t : ℕ) (s : List ℕ) → Bytes s → {list : Listing} → list ≡ listingOf t s → HeldBy s list (listedOf t s)
-held-by t s bs e = subst (λ (q : Listing). HeldBy s q (listedOf t s)) (sym e) (held t s bs)
+pub held : ListingHolds
+unfolding listingUnder listedUnder packetUnder
+held u t s bs = held-from t s bs (readUnder u t s) (λ v last e. (let g = under-got u t s e in (g .small, g .whole)))
+
+pub held-by : (u : Terms) (t : ℕ) (s : List ℕ) → Bytes s → {list : Listing} → list ≡ listingUnder u t s → HeldBy s list (listedUnder u t s)
+held-by u t s bs e = subst (λ (q : Listing). HeldBy s q (listedUnder u t s)) (sym e) (held u t s bs)
 
 pub refused-held : (s : List ℕ) {list : Listing} {r : Refusal} (o : Outcome Listed) → HeldBy s list o → list ≡ L.Refused r → o ≡ stop r
 refused-held s (got l last) x e = absurd (subst (λ (q : Listing). Holds s q l) e (x .0))

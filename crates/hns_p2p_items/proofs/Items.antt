@@ -31,15 +31,19 @@ use Rattle.hns_p2p_types.specs.declared.Packet.{Packet}
 use Rattle.hns_p2p_types.specs.declared.Packet.the-variants as P
 use Rattle.hns_p2p_types.proofs.Packet as packets
 use Rattle.hns_p2p_types.proofs.Listing as listings
+use Rattle.hns_p2p_types.specs.Protocol.{readBy}
+use Rattle.hns_p2p_types.specs.Packets.{row, layout, answered}
+use Rattle.hns_p2p_types.proofs.Payloads.{by-got}
+use Rattle.hns_p2p_rights.specs.Terms.{Terms}
 use Rattle.hns_p2p_blocks.proofs.Addresses.{address-is}
 use Rattle.hns_p2p_differences.specs.Helpers.{passedAfter}
 use Rattle.hns_p2p_lists.proofs.Lists.{value-stands}
 use Rattle.hns_p2p_differences.proofs.Passing.{passed-first, index-next, indexes-end}
 use Rattle.hns_p2p_lists.proofs.Requests.{index-count}
-use Rattle.hns_p2p_items.specs.Items.{Element, anIndex, Listed, sizeOf, answer, pick, answerAt, itemBy, itemOf, listedOf, Stands, key-there, hash-there, bytes-there, header-there, index-there, ItemsStand}
-use Rattle.hns_p2p_items.specs.Listings.{listIn, listingOf, Records, Indexes, Holds, HeldBy}
+use Rattle.hns_p2p_items.specs.Items.{Element, anIndex, Listed, sizeOf, answer, pick, answerAt, itemBy, itemOf, itemUnder, listedOf, listedUnder, Stands, key-there, hash-there, bytes-there, header-there, index-there, ItemsStand}
+use Rattle.hns_p2p_items.specs.Listings.{listIn, listingUnder, Records, Indexes, Holds, HeldBy}
 use Rattle.hns_p2p_items.specs.Helpers.{itemsIn, lastItem, indexIn, itemIn}
-use Rattle.hns_p2p_items.proofs.Held.{held-by, refused-held, room}
+use Rattle.hns_p2p_items.proofs.Held.{held-from, held-by, refused-held, room}
 
 -- ---- packets that have no list
 
@@ -199,16 +203,16 @@ item-law s (L.Refused q) l r k h d = absurd r
 abbrev unrefused : List ℕ
 unrefused = 0 ∷ 1 ∷ 2 ∷ 3 ∷ 4 ∷ 5 ∷ []
 
-module _ (t : ℕ) (s : List ℕ) (bs : Bytes s) (k : ℕ) {list : Listing} (e : list ≡ listingOf t s) where
+module _ (u : Terms) (t : ℕ) (s : List ℕ) (bs : Bytes s) (k : ℕ) {list : Listing} (e : list ≡ listingUnder u t s) where
   pub item-room : {i : Items} → i ≡ itemsIn list → k < i .count → (i .first ≤ maxPayload) × (k ≤ maxPayload)
   item-room q h =
-      let m = room s list (listedOf t s) (held-by t s bs e) in
+      let m = room s list (listedUnder u t s) (held-by u t s bs e) in
       let n : k < itemsIn list .count = rw q at h in
       rw q (m .0, omega (arith, m .1))
 
-  pub item-there : {i : Items} {item : Item} → i ≡ itemsIn list → k < i .count → item ≡ itemIn s list (i .first) k → item ≡ itemOf t s k
-  unfolding itemOf itemsIn
-  item-there q h g = g ∙ (ap (λ (j : Items). itemIn s list (j .first) k) q ∙ go (listedOf t s) (held-by t s bs e) (rw q at h))
+  pub item-there : {i : Items} {item : Item} → i ≡ itemsIn list → k < i .count → item ≡ itemIn s list (i .first) k → item ≡ itemUnder u t s k
+  unfolding itemUnder itemsIn
+  item-there q h g = g ∙ (ap (λ (j : Items). itemIn s list (j .first) k) q ∙ go (listedUnder u t s) (held-by u t s bs e) (rw q at h))
     where
       go : (o : Outcome Listed) → HeldBy s list o → k < itemsIn list .count → itemIn s list (itemsIn list .first) k ≡ itemBy k o
       go (got l last) x h =
@@ -216,9 +220,9 @@ module _ (t : ℕ) (s : List ℕ) (bs : Bytes s) (k : ℕ) {list : Listing} (e :
           item-law s list l (x .0) k h (anIndex 0) ∙ sym (pick-there (answerAt l k) (I.Refused noItem) (l .elements) k (anIndex 0) (omega arith))
       go (stop r) x h = absurd (omega (arith, rw x at h))
 
-  pub item-past : {i : Items} → i ≡ itemsIn list → i .count ≤ k → OneOf unrefused (tagOf listings.the-type list) → I.Refused noItem ≡ itemOf t s k
-  unfolding itemOf
-  item-past q h z = go (listedOf t s) (held-by t s bs e)
+  pub item-past : {i : Items} → i ≡ itemsIn list → i .count ≤ k → OneOf unrefused (tagOf listings.the-type list) → I.Refused noItem ≡ itemUnder u t s k
+  unfolding itemUnder
+  item-past q h z = go (listedUnder u t s) (held-by u t s bs e)
     where
       go : (o : Outcome Listed) → HeldBy s list o → I.Refused noItem ≡ itemBy k o
       go (got l last) x =
@@ -227,9 +231,9 @@ module _ (t : ℕ) (s : List ℕ) (bs : Bytes s) (k : ℕ) {list : Listing} (e :
           sym (pick-past (answerAt l k) (I.Refused noItem) (l .elements) k (omega arith))
       go (stop r) x = absurd (miss unrefused 6 tt (rw x at z))
 
-  pub item-refused : {r : Refusal} → list ≡ L.Refused r → I.Refused r ≡ itemOf t s k
-  unfolding itemOf
-  item-refused q = ap (itemBy k) (sym (refused-held s (listedOf t s) (held-by t s bs e) q))
+  pub item-refused : {r : Refusal} → list ≡ L.Refused r → I.Refused r ≡ itemUnder u t s k
+  unfolding itemUnder
+  item-refused q = ap (itemBy k) (sym (refused-held s (listedUnder u t s) (held-by u t s bs e) q))
 
 -- ---- what stands at the places
 
@@ -252,9 +256,11 @@ element-stands s L.Nothing l r k h d = absurd (omega arith)
 element-stands s (L.Refused q) l r k h d = absurd r
 
 pub stands : ItemsStand
-unfolding itemOf
+unfolding itemOf listedOf
 stands t s bs l last e k h d =
-    let r : HeldBy s (listingOf t s) (got l last) = subst (HeldBy s (listingOf t s)) e (held-by t s bs refl) in
-    let n = as-many s (listingOf t s) l (r .0) in
+    let list = listIn (answered (row t .packet s) (readBy (layout t) s)) in
+    let whole = held-from t s bs (readBy (layout t) s) (λ v last e. by-got (layout t) s e) in
+    let r : HeldBy s list (got l last) = subst (HeldBy s list) e whole in
+    let n = as-many s list l (r .0) in
     let is : itemBy k (listedOf t s) ≡ answerAt l k (getD (l .elements) k d) = ap (itemBy k) e ∙ pick-there (answerAt l k) (I.Refused noItem) (l .elements) k d h in
-    subst (Stands s (getD (l .elements) k d)) (sym is) (element-stands s (listingOf t s) l (r .0) k (omega arith) d)
+    subst (Stands s (getD (l .elements) k d)) (sym is) (element-stands s list l (r .0) k (omega arith) d)

@@ -15,6 +15,8 @@ use Rattle.hns_p2p_types.specs.declared.Packet.the-variants as P
 use Rattle.hns_p2p_types.specs.declared.Item.{Item}
 use Rattle.hns_p2p_types.specs.declared.Item.the-variants as I
 use Rattle.hns_p2p_types.specs.Packets.{addressAt, Row, rows, rawBytes, row, layout, _&_, entry}
+use Rattle.hns_p2p_rights.specs.Terms.{Terms}
+use Rattle.hns_p2p_admission.specs.Reading.{readUnder}
 
 -- ---- the items
 
@@ -91,9 +93,16 @@ unfoldable pub itemsBy : (t : ℕ) → RowItems (row t)
 unfolding row
 itemsBy t = entry RowItems rows (rawBytes (P.Unknown t)) t rowItems none
 
--- the items of a payload of a type, or the refusal
+-- the items of what a payload of a type reads as, or the refusal
+abbrev pub listedBy : (t : ℕ) (s : List ℕ) → Outcome (Value (layout t (length s))) → Outcome Listed
+listedBy t s o = after o (λ v last. got (itemsBy t .listed (length s) v) last)
+
 unfoldable pub listedOf : ℕ → List ℕ → Outcome Listed
-listedOf t s = after (readBy (layout t) s) (λ v last. got (itemsBy t .listed (length s) v) last)
+listedOf t s = listedBy t s (readBy (layout t) s)
+
+-- the same of a payload that is read under terms
+unfoldable pub listedUnder : Terms → ℕ → List ℕ → Outcome Listed
+listedUnder u t s = listedBy t s (readUnder u t s)
 
 -- ---- the answer
 
@@ -131,6 +140,9 @@ itemBy k (stop r) = I.Refused r
 -- the item at place k, from 0 on, of a payload s of type t; no output is lent, so that 16 is no refusal here
 unfoldable pub itemOf : ℕ → List ℕ → ℕ → Item
 itemOf t s k = itemBy k (listedOf t s)
+
+unfoldable pub itemUnder : Terms → ℕ → List ℕ → ℕ → Item
+itemUnder u t s k = itemBy k (listedUnder u t s)
 
 -- ---- what stands at an answered place
 

@@ -13,8 +13,9 @@ use Rattle.hns_p2p_types.specs.declared.Packet.{Packet}
 use Rattle.hns_p2p_types.specs.declared.Packet.the-variants as P
 use Rattle.hns_p2p_types.specs.declared.Listing.{Listing}
 use Rattle.hns_p2p_types.specs.declared.Listing.the-variants as L
-use Rattle.hns_p2p_types.specs.Packets.{packetOf}
-use Rattle.hns_p2p_items.specs.Items.{Element, anAddress, anInventory, aHash, aHeader, anIndex, Listed, listedOf}
+use Rattle.hns_p2p_rights.specs.Terms.{Terms}
+use Rattle.hns_p2p_admission.specs.Reading.{packetUnder}
+use Rattle.hns_p2p_items.specs.Items.{Element, anAddress, anInventory, aHash, aHeader, anIndex, Listed, listedUnder}
 
 unfoldable pub listIn : Packet → Listing
 listIn (P.Addr x) = L.Addresses x
@@ -50,9 +51,9 @@ listIn (P.Claim x) = L.Nothing
 listIn (P.Airdrop x) = L.Nothing
 listIn (P.Unknown t x) = L.Nothing
 
--- the list of a payload of a type
-unfoldable pub listingOf : ℕ → List ℕ → Listing
-listingOf t s = listIn (packetOf t s)
+-- the list of a payload of a type that is read under terms
+unfoldable pub listingUnder : Terms → ℕ → List ℕ → Listing
+listingUnder u t s = listIn (packetUnder u t s)
 
 -- ---- what stands at the place where a list begins
 
@@ -88,6 +89,6 @@ abbrev pub HeldBy : List ℕ → Listing → Outcome Listed → Type 0
 HeldBy s list (got l last) = Holds s list l × (length s ≤ maxPayload)
 HeldBy s list (stop r) = list ≡ L.Refused r
 
--- `held` of proofs/Held.antt: of every type and every payload
+-- `held` of proofs/Held.antt: of every type and every payload, under any terms
 abbrev pub ListingHolds : Type 0
-ListingHolds = (t : ℕ) (s : List ℕ) → Bytes s → HeldBy s (listingOf t s) (listedOf t s)
+ListingHolds = (u : Terms) (t : ℕ) (s : List ℕ) → Bytes s → HeldBy s (listingUnder u t s) (listedUnder u t s)

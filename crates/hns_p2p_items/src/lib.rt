@@ -10,8 +10,9 @@ use hns_refusals::Refusal;
 ghost use mathlib.Core.Path.{_≡_};
 ghost use Prim.Native.Nat.{_≤_};
 ghost use Rattle.hns_refusals.specs.Limits.{maxPayload};
-ghost use Rattle.hns_p2p_items.specs.Items.{itemOf};
-ghost use Rattle.hns_p2p_items.specs.Listings.{listIn, listingOf};
+ghost use Rattle.hns_p2p_rights.specs.Terms.{termsOf};
+ghost use Rattle.hns_p2p_items.specs.Items.{itemUnder};
+ghost use Rattle.hns_p2p_items.specs.Listings.{listIn, listingUnder};
 ghost use Rattle.hns_p2p_items.specs.Helpers.{itemsIn, indexIn, itemIn};
 
 // The list of a packet.
@@ -41,11 +42,11 @@ fn list_in(packet: Packet) -> Listing
     }
 }
 
-// The list of a payload of a type, or the refusal.
-pub fn listing(packet_type: u8, payload: &[u8]) -> Listing
-    ensures { λ r. ⌜ r ≡ listingOf «packet_type» (now (payload .entry)) ⌝ }
+// The list of a payload of a type under terms, or the refusal.
+pub fn listing(terms: &[u64], packet_type: u8, payload: &[u8]) -> Listing
+    ensures { λ r. ⌜ r ≡ listingUnder (termsOf (now (terms .entry))) «packet_type» (now (payload .entry)) ⌝ }
 {
-    list_in(hns_p2p_packet::read_payload(packet_type, payload))
+    list_in(hns_p2p_packet::read_payload(terms, packet_type, payload))
 }
 
 // The items of a list, none where it has none or is refused.
@@ -100,10 +101,10 @@ fn item_in(payload: &[u8], list: Listing, first: usize, place: usize) -> Item
 }
 
 // The item at a place of a payload of a type: the payload's own refusal first, which is never 16, then 19.
-pub fn item(packet_type: u8, payload: &[u8], place: usize) -> Item
-    ensures { λ r. ⌜ r ≡ itemOf «packet_type» (now (payload .entry)) place ⌝ }
+pub fn item(terms: &[u64], packet_type: u8, payload: &[u8], place: usize) -> Item
+    ensures { λ r. ⌜ r ≡ itemUnder (termsOf (now (terms .entry))) «packet_type» (now (payload .entry)) place ⌝ }
 {
-    let list = listing(packet_type, payload);
+    let list = listing(terms, packet_type, payload);
     let items = items_in(list);
     if place < items.count {
         return item_in(payload, list, items.first, place);

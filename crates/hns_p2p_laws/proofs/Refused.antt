@@ -1,25 +1,32 @@
 -- Which refusals reading can give: by the format, field by field. Assumes nothing.
 use Prim.Native.Nat.{ℕ, zero, suc, _+_}
-use mathlib.Core.Path.{_≡_, refl, subst}
+use mathlib.Core.Path.{_≡_, refl, sym, ap, _∙_, subst}
 use mathlib.Core.Bool.{Bool, true, false}
 use mathlib.Core.List.{List}
 use lib.ListN.{length}
 use lib.Dec.{leb, ltb, eqb}
+use borrow.Author.Tests.{le-leb, lt-leb}
 use Rattle.hns_refusals.specs.declared.Refusal.{Refusal}
-use Rattle.hns_refusals.specs.Limits.{maxPayload, maxIndexes, maxIndex}
+use Rattle.hns_refusals.specs.declared.Checked.{Checked}
+use Rattle.hns_refusals.specs.declared.Checked.the-variants as C
+use Rattle.hns_refusals.specs.Limits.{maxIndexes, maxIndex}
 use Rattle.hns_refusals.specs.Refusals.{indexCountField, indexField}
 use Rattle.hns_encoding.specs.Bytes.{choose, left, Outcome, got, stop, after, bytesAt, leAt, endAt, toEnd}
 use Rattle.hns_encoding.specs.Compact.{wideAt, compactFrom, compactAt, countAt}
 use Rattle.hns_encoding.specs.Format.{Format, nothing, num, raw, reserved, host, flag, text, counted, indexes, whole, tagged, _▸_, Value, many, indexesFrom, read}
 use Rattle.hns_encoding.proofs.Outcomes.{choose-leb}
-use Rattle.hns_p2p_types.specs.Protocol.{Layout, readBy}
-use Rattle.hns_p2p_types.specs.Packets.{row, layout, texted, answerBy, readPacket}
-use Rattle.hns_p2p_laws.specs.Refused.{PayloadRefusal, ends, not-shortest, left-over, too-large, over-limit, index-over, AnswerIs, refused, text-short, reads, PacketIs}
+use Rattle.hns_p2p_types.specs.Packets.{row, layout, texted, Answer, answerBy}
+use Rattle.hns_p2p_rights.specs.Terms.{Terms}
+use Rattle.hns_p2p_admission.specs.Admission.{admitted}
+use Rattle.hns_p2p_admission.specs.Reading.{ifPassed, readUnder, readPacketUnder}
+use Rattle.hns_p2p_admission.specs.Claims.{AdmissionIs}
+use Rattle.hns_p2p_admission.proofs.Admitted.{conditions}
+use Rattle.hns_p2p_laws.specs.Refused.{FieldRefusal, ends, not-shortest, left-over, over-limit, index-over, fieldsRead, AnswerIs, turned-away, refused, text-short, reads, PacketIs}
 
 -- a value, or one of these refusals
 data Only {A : Type 0} : Outcome A → Type 0 where
   value : {a : A} {at : ℕ} → Only (got a at)
-  refusal : {r : Refusal} → PayloadRefusal r → Only (stop r)
+  refusal : {r : Refusal} → FieldRefusal r → Only (stop r)
 
 then : {A B : Type 0} (o : Outcome A) (k : A → ℕ → Outcome B) → Only o → ((a : A) (at : ℕ) → Only (k a at)) → Only (after o k)
 then (got a at) k x y = y a at
@@ -29,7 +36,7 @@ either : {A : Type 0} (b : Bool) (x y : Outcome A) → Only x → Only y → Onl
 either true x y p q = p
 either false x y p q = q
 
-why : {A : Type 0} {r : Refusal} → Only {A = A} (stop r) → PayloadRefusal r
+why : {A : Type 0} {r : Refusal} → Only {A = A} (stop r) → FieldRefusal r
 why (refusal x) = x
 
 -- ---- reads
@@ -95,16 +102,41 @@ read-only (whole n f) s at = then (bytesAt n s at) _ (bytes-only n s at) (λ bs 
 read-only (tagged k) s at = then (leAt 1 s at) _ (number-only 1 s at) (λ t next. then (read (k t) s next) _ (read-only (k t) s next) (λ v last. value))
 read-only (f ▸ g) s at = then (read f s at) _ (read-only f s at) (λ a next. then (read g s next) _ (read-only g s next) (λ b last. value))
 
-payload-only : (l : Layout) (s : List ℕ) → Only (readBy l s)
-unfolding readBy
-payload-only l s = either (leb (length s) maxPayload) _ _ (to-end-only (read (l (length s))) s (read-only (l (length s)) s 0)) (refusal (too-large _))
+fields-only : (t : ℕ) (s : List ℕ) → Only (fieldsRead t s)
+fields-only t s = to-end-only (read (layout t (length s))) s (read-only (layout t (length s)) s 0)
 
 -- ---- the answer
 
+module _ (u : Terms) (t : ℕ) (s o : List ℕ) where
+  abbrev answer : Outcome (Value (layout t (length s))) → Answer
+  answer q = answerBy (row t .packet s) (row t .text s) q o
+
+  by-fields : AdmissionIs u t (length s) C.Passed → (q : Outcome (Value (layout t (length s)))) → fieldsRead t s ≡ q → AnswerIs u t s o (answer q)
+  unfolding texted
+  by-fields a (got v last) e = choose-leb (AnswerIs u t s o) (length (row t .text s v)) (length o) (reads a v last e) (text-short a v last e)
+  by-fields a (stop r) e = refused a r e (why (subst (λ (q : Outcome (Value (layout t (length s)))). Only q) e (fields-only t s)))
+
+  by-tests : (a : Checked) → AdmissionIs u t (length s) a → AnswerIs u t s o (answer (ifPassed a (fieldsRead t s)))
+  by-tests C.Passed a = by-fields a (fieldsRead t s) refl
+  by-tests (C.Refused r) a = turned-away r a
+
+  -- the answer meets its condition
+  answer-is : AnswerIs u t s o (readPacketUnder u t s o)
+  unfolding readPacketUnder readUnder
+  answer-is = by-tests (admitted u t (length s)) (conditions u t (length s) (admitted u t (length s)) .1 refl)
+
+  -- what a test answers, and so what is read
+  given-tests : {a : Checked} → AdmissionIs u t (length s) a → readPacketUnder u t s o ≡ answer (ifPassed a (fieldsRead t s))
+  unfolding readPacketUnder readUnder
+  given-tests {a} c = ap (λ (k : Checked). answer (ifPassed k (fieldsRead t s))) (sym (conditions u t (length s) a .0 c))
+
+  -- and no other answer does
+  answer-only : {a : Answer} → AnswerIs u t s o a → a ≡ readPacketUnder u t s o
+  unfolding texted
+  answer-only (turned-away r c) = sym (given-tests c)
+  answer-only (refused c r e k) = sym (given-tests c ∙ rw e)
+  answer-only (text-short c v last e h) = sym (given-tests c ∙ rw (e, lt-leb (length (row t .text s v)) (length o) h))
+  answer-only (reads c v last e h) = sym (given-tests c ∙ rw (e, le-leb (length (row t .text s v)) (length o) h))
+
 pub packet-is : PacketIs
-unfolding readPacket texted
-packet-is t s o = go (readBy (layout t) s) refl
-  where
-    go : (q : Outcome (Value (layout t (length s)))) → readBy (layout t) s ≡ q → AnswerIs t s o (answerBy (row t .packet s) (row t .text s) q o)
-    go (got v last) e = choose-leb (AnswerIs t s o) (length (row t .text s v)) (length o) (reads v last e) (text-short v last e)
-    go (stop r) e = refused r e (why (subst (λ (q : Outcome (Value (layout t (length s)))). Only q) e (payload-only (layout t) s)))
+packet-is u t s o a = (answer-only u t s o, λ e. subst (AnswerIs u t s o) (sym e) (answer-is u t s o))

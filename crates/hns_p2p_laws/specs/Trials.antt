@@ -19,7 +19,7 @@ use Rattle.hns_p2p_types.specs.Packets.{Answer, readPacket}
 abbrev pub Reader : Type 0
 Reader = ℕ → List ℕ → List ℕ → Answer
 
--- what the contract of `read_packet` says of it
+-- what the contract of `read_packet` says of it if no terms are named (`calls` of hns_p2p_calls)
 abbrev pub Reads : Reader → Type 0
 Reads read = (t : ℕ) (s o : List ℕ) → read t s o ≡ readPacket t s o
 

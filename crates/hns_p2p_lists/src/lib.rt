@@ -1,4 +1,5 @@
-// Payloads that are lists: a count and items of one size are one multiplication; index lists are passed.
+// Fields of payloads that are lists: a count and items of one size are one multiplication; index lists are passed. What is
+// tested before the fields is not tested here.
 use hns_encoding::Number;
 use hns_header_consensus::HEADER_SIZE;
 use hns_p2p_differences::Passed;
@@ -123,7 +124,7 @@ fn stop_packet(packet_type: u8, payload: &[u8], list: Counted) -> Packet
     }
 }
 
-pub fn read_addr(payload: &[u8]) -> Packet
+pub fn read_addr_fields(payload: &[u8]) -> Packet
     ensures { λ r. ⌜ r ≡ fieldsOf 5 (now (payload .entry)) ⌝ }
 {
     let widths = [8, 4, 4, 1, 36, 2, 33];
@@ -142,19 +143,19 @@ fn read_inventory(packet_type: u8, payload: &[u8]) -> Packet
     list_packet(packet_type, payload, list)
 }
 
-pub fn read_inv(payload: &[u8]) -> Packet
+pub fn read_inv_fields(payload: &[u8]) -> Packet
     ensures { λ r. ⌜ r ≡ fieldsOf 6 (now (payload .entry)) ⌝ }
 {
     read_inventory(6, payload)
 }
 
-pub fn read_getdata(payload: &[u8]) -> Packet
+pub fn read_getdata_fields(payload: &[u8]) -> Packet
     ensures { λ r. ⌜ r ≡ fieldsOf 7 (now (payload .entry)) ⌝ }
 {
     read_inventory(7, payload)
 }
 
-pub fn read_notfound(payload: &[u8]) -> Packet
+pub fn read_notfound_fields(payload: &[u8]) -> Packet
     ensures { λ r. ⌜ r ≡ fieldsOf 8 (now (payload .entry)) ⌝ }
 {
     read_inventory(8, payload)
@@ -168,19 +169,19 @@ fn read_locator(packet_type: u8, payload: &[u8]) -> Packet
     stop_packet(packet_type, payload, list)
 }
 
-pub fn read_getblocks(payload: &[u8]) -> Packet
+pub fn read_getblocks_fields(payload: &[u8]) -> Packet
     ensures { λ r. ⌜ r ≡ fieldsOf 9 (now (payload .entry)) ⌝ }
 {
     read_locator(9, payload)
 }
 
-pub fn read_getheaders(payload: &[u8]) -> Packet
+pub fn read_getheaders_fields(payload: &[u8]) -> Packet
     ensures { λ r. ⌜ r ≡ fieldsOf 10 (now (payload .entry)) ⌝ }
 {
     read_locator(10, payload)
 }
 
-pub fn read_headers(payload: &[u8]) -> Packet
+pub fn read_headers_fields(payload: &[u8]) -> Packet
     ensures { λ r. ⌜ r ≡ fieldsOf 11 (now (payload .entry)) ⌝ }
 {
     list_packet(
@@ -190,7 +191,7 @@ pub fn read_headers(payload: &[u8]) -> Packet
     )
 }
 
-pub fn read_getblocktxn(payload: &[u8]) -> Packet
+pub fn read_getblocktxn_fields(payload: &[u8]) -> Packet
     ensures { λ r. ⌜ r ≡ fieldsOf 24 (now (payload .entry)) ⌝ }
 {
     let there = payload.len();

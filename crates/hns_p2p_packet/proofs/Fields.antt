@@ -1,22 +1,23 @@
 -- The rows of the table: a packet's fields by its type. Assumes nothing.
-use Rattle.hns_refusals.specs.Limits.{maxPayload}
-use Prim.Native.Nat.{ℕ, _≤_, _<_}
+use Prim.Native.Nat.{ℕ, _≤_}
 use mathlib.Core.Path.{_≡_, refl, sym, ap, _∙_}
 use mathlib.Core.List.{List}
 use native.Mathlib.Omega.{arith}
 use lib.ListN.{length, List·getD-eq-default}
 use lib.Seq.{take-all}
-use borrow.Author.Tests.{le-leb, lt-leb}
 use Rattle.hns_refusals.specs.declared.Refusal.{Refusal}
-use Rattle.hns_refusals.specs.Refusals.{payloadTooLarge}
 use Rattle.hns_encoding.specs.Bytes.{Outcome, got, stop, after, bytesAt, endAt, toEnd}
 use Rattle.hns_encoding.specs.Format.{raw, read}
 use Rattle.hns_encoding.proofs.Outcomes.{bytes-fits, toEnd-fits}
+use Rattle.hns_refusals.specs.declared.Checked.{Checked}
+use Rattle.hns_refusals.specs.declared.Checked.the-variants as C
 use Rattle.hns_p2p_types.specs.declared.Span.{Span}
 use Rattle.hns_p2p_types.specs.declared.Packet.{Packet}
 use Rattle.hns_p2p_types.specs.declared.Packet.the-variants as P
-use Rattle.hns_p2p_types.specs.Protocol.{readBy}
-use Rattle.hns_p2p_types.specs.Packets.{Row, empty, rawBytes, row, rows, answered, packetOf}
+use Rattle.hns_p2p_types.specs.Packets.{Row, empty, rawBytes, row, rows, answered}
+use Rattle.hns_p2p_rights.specs.Terms.{Terms}
+use Rattle.hns_p2p_admission.specs.Admission.{admitted}
+use Rattle.hns_p2p_admission.specs.Reading.{readUnder, packetUnder}
 use Rattle.hns_p2p_blocks.specs.Blocks.{gate}
 use Rattle.hns_p2p_types.specs.Packets.{fieldsBy, fieldsOf}
 
@@ -48,12 +49,13 @@ pub unknown-fields : (t : ℕ) (s : List ℕ) → 30 ≤ t → P.Unknown t (reco
 unfolding fieldsOf row rows
 unknown-fields t s h = raw-fields (P.Unknown t) s ∙ ap (λ (w : Row). fieldsBy w s) (sym (List·getD-eq-default rows (rawBytes (P.Unknown t)) h))
 
--- ---- the shell
+-- ---- the tests before them
 
-pub packet-fields : (t : ℕ) (s : List ℕ) → length s ≤ maxPayload → {r : Packet} → r ≡ fieldsOf t s → r ≡ packetOf t s
-unfolding fieldsOf packetOf readBy
-packet-fields t s h e = e ∙ rw (le-leb (length s) maxPayload h)
+module _ (u : Terms) (t : ℕ) (s : List ℕ) {a : Checked} (e : a ≡ admitted u t (length s)) where
+  pub packet-away : {r : Refusal} → a ≡ C.Refused r → P.Refused r ≡ packetUnder u t s
+  unfolding packetUnder readUnder
+  packet-away q = rw (sym e ∙ q)
 
-pub packet-large : (t : ℕ) (s : List ℕ) → maxPayload < length s → {r : Refusal} → r ≡ payloadTooLarge (length s) → P.Refused r ≡ packetOf t s
-unfolding packetOf readBy
-packet-large t s h e = rw (lt-leb (length s) maxPayload h) (ap P.Refused e)
+  pub packet-fields : a ≡ C.Passed → {p : Packet} → p ≡ fieldsOf t s → p ≡ packetUnder u t s
+  unfolding packetUnder readUnder fieldsOf
+  packet-fields q f = f ∙ rw (sym e ∙ q)

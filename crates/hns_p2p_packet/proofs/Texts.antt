@@ -6,24 +6,25 @@ use mathlib.Core.Logic.{⊎-elim}
 use native.Mathlib.Omega.{arith}
 use native.Mathlib.Nat.{zero-add}
 use lib.ListN.{length, getD, set}
-use lib.Dec.{leb}
 use borrow.Author.Tests.{le-leb, lt-leb}
 use Rattle.hns_refusals.specs.declared.Refusal.{Refusal}
-use Rattle.hns_refusals.specs.Limits.{maxPayload}
 use Rattle.hns_refusals.specs.Refusals.{outputShort}
 use Rattle.hns_encoding.specs.Bytes.{Outcome, got, stop, part, left, numberAt, toEnd}
 use Rattle.hns_encoding.specs.Format.{Format, Value, read, low7, sum, All, Flat, widthsAt, valueAt}
 use Rattle.hns_encoding.specs.Put.{splice}
 use Rattle.hns_encoding.proofs.Numbers.{lt-or-ge, part-add, byte-part}
-use Rattle.hns_encoding.proofs.Outcomes.{choose-got, toEnd-got}
+use Rattle.hns_encoding.proofs.Outcomes.{toEnd-got}
 use Rattle.hns_encoding.proofs.Puts.{splice-none, splice-append, splice-byte}
 use Rattle.hns_p2p_types.specs.declared.Span.{Span}
 use Rattle.hns_p2p_types.specs.declared.Packet.{Packet}
 use Rattle.hns_p2p_types.specs.declared.Packet.the-variants as P
 use Rattle.hns_p2p_types.specs.declared.VersionPacket.{VersionPacket}
 use Rattle.hns_p2p_types.specs.declared.RejectPacket.{RejectPacket}
-use Rattle.hns_p2p_types.specs.Protocol.{version, reject, readBy}
-use Rattle.hns_p2p_types.specs.Packets.{_&_, entry, Row, worded, rawBytes, versionPacket, rejectPacket, agentOf, reasonOf, rows, row, layout, answered, packetOf, Answer, texted, answerBy, readPacket}
+use Rattle.hns_p2p_types.specs.Protocol.{version, reject}
+use Rattle.hns_p2p_types.specs.Packets.{_&_, entry, Row, worded, rawBytes, versionPacket, rejectPacket, agentOf, reasonOf, rows, row, layout, answered, Answer, texted, answerBy}
+use Rattle.hns_p2p_rights.specs.Terms.{Terms}
+use Rattle.hns_p2p_admission.specs.Reading.{readUnder, packetUnder, readPacketUnder}
+use Rattle.hns_p2p_admission.proofs.Admitted.{under-got}
 use Rattle.hns_p2p_packet.specs.Spans.{noSpan, textSpan}
 use Rattle.hns_encoding.proofs.Blocks.{block}
 use Rattle.hns_p2p_blocks.proofs.Packets.{text-length, reject-flat}
@@ -160,30 +161,29 @@ row-words t = entry Words rows (rawBytes (P.Unknown t)) t all-words (plain (λ s
 -- ---- what an output does to a reading
 
 -- the packet's text stands at its span, and the answer is the packet with that text
-pub record Texts (t : ℕ) (s : List ℕ) : Type 0 where
+pub record Texts (u : Terms) (t : ℕ) (s : List ℕ) : Type 0 where
   pub text : List ℕ
-  pub stands : Stands s (textSpan (packetOf t s)) text
-  pub says : (o : List ℕ) → texted (packetOf t s) text o ≡ readPacket t s o
+  pub stands : Stands s (textSpan (packetUnder u t s)) text
+  pub says : (o : List ℕ) → texted (packetUnder u t s) text o ≡ readPacketUnder u t s o
 
 refused-text : (r : Refusal) (o : List ℕ) → texted (P.Refused r) [] o ≡ record { packet = P.Refused r; text = o }
 unfolding texted
 refused-text r o = rw (le-leb 0 (length o) (omega arith), splice-none o 0)
 
-pub texts : (t : ℕ) (s : List ℕ) → Texts t s
-unfolding packetOf readPacket readBy textSpan
-texts t s = go (readBy (layout t) s) refl
+pub texts : (u : Terms) (t : ℕ) (s : List ℕ) → Texts u t s
+unfolding packetUnder readPacketUnder textSpan
+texts u t s = go (readUnder u t s) refl
   where
-    go : (o : Outcome (Value (layout t (length s)))) → readBy (layout t) s ≡ o → Texts t s
+    go : (o : Outcome (Value (layout t (length s)))) → readUnder u t s ≡ o → Texts u t s
     go (got v last) e =
-        let all : toEnd (read (layout t (length s))) s ≡ got v last = choose-got (leb (length s) maxPayload) _ _ e .1 in
-        let is : packetOf t s ≡ row t .packet s v = ap (answered (row t .packet s)) e in
+        let is : packetUnder u t s ≡ row t .packet s v = ap (answered (row t .packet s)) e in
         record {
           text = row t .text s v;
-          stands = subst (λ (p : Packet). Stands s (textSpan p) (row t .text s v)) (sym is) (row-words t .words s v last all);
+          stands = subst (λ (p : Packet). Stands s (textSpan p) (row t .text s v)) (sym is) (row-words t .words s v last (under-got u t s e .whole));
           says = λ o. ap (λ (p : Packet). texted p (row t .text s v) o) is ∙ sym (ap (λ (q : Outcome (Value (layout t (length s)))). answerBy (row t .packet s) (row t .text s) q o) e);
         }
     go (stop r) e =
-        let is : packetOf t s ≡ P.Refused r = ap (answered (row t .packet s)) e in
+        let is : packetUnder u t s ≡ P.Refused r = ap (answered (row t .packet s)) e in
         record {
           text = [];
           stands = subst (λ (p : Packet). Stands s (textSpan p) []) (sym is) (nowhere s);
@@ -191,27 +191,27 @@ texts t s = go (readBy (layout t) s) refl
         }
 
 -- the span of a packet's text, and the answers by whether the output is long enough
-module _ (t : ℕ) (s : List ℕ) {packet : Packet} {span : Span} (ep : packet ≡ packetOf t s) (es : span ≡ textSpan packet) where
-  there : Stands s span (texts t s .text)
-  there = subst (λ (k : Span). Stands s k (texts t s .text)) (sym (es ∙ ap textSpan ep)) (texts t s .stands)
+module _ (u : Terms) (t : ℕ) (s : List ℕ) {packet : Packet} {span : Span} (ep : packet ≡ packetUnder u t s) (es : span ≡ textSpan packet) where
+  there : Stands s span (texts u t s .text)
+  there = subst (λ (k : Span). Stands s k (texts u t s .text)) (sym (es ∙ ap textSpan ep)) (texts u t s .stands)
 
   pub text-inside : span .start + span .length ≤ length s
   text-inside = there .inside
 
-  size : length (texts t s .text) ≡ span .length
+  size : length (texts u t s .text) ≡ span .length
   size = ap length (there .same) ∙ text-length s (span .start) (span .length) (there .inside)
 
-  pub text-short : (o : List ℕ) → length o < span .length → {r : Refusal} → r ≡ outputShort (span .length) → (P.Refused r ≡ readPacket t s o .packet) × (o ≡ readPacket t s o .text)
+  pub text-short : (o : List ℕ) → length o < span .length → {r : Refusal} → r ≡ outputShort (span .length) → (P.Refused r ≡ readPacketUnder u t s o .packet) × (o ≡ readPacketUnder u t s o .text)
   unfolding texted
   text-short o h {r} e =
-      let over : length o < length (texts t s .text) = omega (arith, size) in
-      let is : record { packet = P.Refused (outputShort (length (texts t s .text))); text = o } ≡ readPacket t s o = rw (lt-leb (length (texts t s .text)) (length o) over) at (texts t s .says o) in
-      let why : r ≡ outputShort (length (texts t s .text)) = e ∙ ap outputShort (sym size) in
+      let over : length o < length (texts u t s .text) = omega (arith, size) in
+      let is : record { packet = P.Refused (outputShort (length (texts u t s .text))); text = o } ≡ readPacketUnder u t s o = rw (lt-leb (length (texts u t s .text)) (length o) over) at (texts u t s .says o) in
+      let why : r ≡ outputShort (length (texts u t s .text)) = e ∙ ap outputShort (sym size) in
       (ap P.Refused why ∙ ap (λ (x : Answer). x .packet) is, ap (λ (x : Answer). x .text) is)
 
-  pub text-fits : (o : List ℕ) → span .length ≤ length o → {o′ : List ℕ} → o′ ≡ splice o 0 (map low7 (part s (span .start) (span .length))) → (packet ≡ readPacket t s o .packet) × (o′ ≡ readPacket t s o .text)
+  pub text-fits : (o : List ℕ) → span .length ≤ length o → {o′ : List ℕ} → o′ ≡ splice o 0 (map low7 (part s (span .start) (span .length))) → (packet ≡ readPacketUnder u t s o .packet) × (o′ ≡ readPacketUnder u t s o .text)
   unfolding texted
   text-fits o h e =
-      let fits : length (texts t s .text) ≤ length o = omega (arith, size) in
-      let is : record { packet = packetOf t s; text = splice o 0 (texts t s .text) } ≡ readPacket t s o = rw (le-leb (length (texts t s .text)) (length o) fits) at (texts t s .says o) in
+      let fits : length (texts u t s .text) ≤ length o = omega (arith, size) in
+      let is : record { packet = packetUnder u t s; text = splice o 0 (texts u t s .text) } ≡ readPacketUnder u t s o = rw (le-leb (length (texts u t s .text)) (length o) fits) at (texts u t s .says o) in
       (ep ∙ ap (λ (x : Answer). x .packet) is, e ∙ (ap (splice o 0) (sym (there .same)) ∙ ap (λ (x : Answer). x .text) is))

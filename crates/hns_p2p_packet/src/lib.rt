@@ -1,6 +1,7 @@
 // Payloads of all 256 types, read as packets.
 use hns_p2p_types::Packet;
 use hns_p2p_types::Span;
+use hns_refusals::Checked;
 use hns_refusals::Refusal;
 ghost use mathlib.Core.Path.{_≡_};
 ghost use mathlib.Core.List.{map};
@@ -9,43 +10,45 @@ ghost use lib.ListN.{length};
 ghost use Rattle.hns_encoding.specs.Bytes.{part};
 ghost use Rattle.hns_encoding.specs.Format.{low7};
 ghost use Rattle.hns_encoding.specs.Put.{splice};
-ghost use Rattle.hns_p2p_types.specs.Packets.{fieldsOf, packetOf, readPacket};
+ghost use Rattle.hns_p2p_types.specs.Packets.{fieldsOf};
+ghost use Rattle.hns_p2p_rights.specs.Terms.{termsOf};
+ghost use Rattle.hns_p2p_admission.specs.Reading.{packetUnder, readPacketUnder};
 ghost use Rattle.hns_p2p_packet.specs.Spans.{textSpan};
 
-// The packet of a payload that is within its limit.
+// The fields of a payload that was admitted.
 fn read_fields(packet_type: u8, payload: &[u8]) -> Packet
     ensures { λ r. ⌜ r ≡ fieldsOf «packet_type» (now (payload .entry)) ⌝ }
 {
     let length = payload.len();
     let all = Span { start: 0, length };
     match packet_type {
-        0 => hns_p2p_blocks::read_version(payload),
+        0 => hns_p2p_blocks::read_version_fields(payload),
         1 => hns_p2p_blocks::close(payload, 0, Packet::Verack),
-        2 => hns_p2p_blocks::read_ping(payload),
-        3 => hns_p2p_blocks::read_pong(payload),
+        2 => hns_p2p_blocks::read_ping_fields(payload),
+        3 => hns_p2p_blocks::read_pong_fields(payload),
         4 => hns_p2p_blocks::close(payload, 0, Packet::GetAddr),
-        5 => hns_p2p_lists::read_addr(payload),
-        6 => hns_p2p_lists::read_inv(payload),
-        7 => hns_p2p_lists::read_getdata(payload),
-        8 => hns_p2p_lists::read_notfound(payload),
-        9 => hns_p2p_lists::read_getblocks(payload),
-        10 => hns_p2p_lists::read_getheaders(payload),
-        11 => hns_p2p_lists::read_headers(payload),
+        5 => hns_p2p_lists::read_addr_fields(payload),
+        6 => hns_p2p_lists::read_inv_fields(payload),
+        7 => hns_p2p_lists::read_getdata_fields(payload),
+        8 => hns_p2p_lists::read_notfound_fields(payload),
+        9 => hns_p2p_lists::read_getblocks_fields(payload),
+        10 => hns_p2p_lists::read_getheaders_fields(payload),
+        11 => hns_p2p_lists::read_headers_fields(payload),
         12 => hns_p2p_blocks::close(payload, 0, Packet::SendHeaders),
         13 => Packet::Block(all),
         14 => Packet::Tx(all),
-        15 => hns_p2p_blocks::read_reject(payload),
+        15 => hns_p2p_blocks::read_reject_fields(payload),
         16 => hns_p2p_blocks::close(payload, 0, Packet::Mempool),
         17 => Packet::FilterLoad(all),
         18 => Packet::FilterAdd(all),
         19 => hns_p2p_blocks::close(payload, 0, Packet::FilterClear),
         20 => Packet::MerkleBlock(all),
-        21 => hns_p2p_blocks::read_feefilter(payload),
-        22 => hns_p2p_blocks::read_sendcmpct(payload),
+        21 => hns_p2p_blocks::read_feefilter_fields(payload),
+        22 => hns_p2p_blocks::read_sendcmpct_fields(payload),
         23 => Packet::CmpctBlock(all),
-        24 => hns_p2p_lists::read_getblocktxn(payload),
+        24 => hns_p2p_lists::read_getblocktxn_fields(payload),
         25 => Packet::BlockTxn(all),
-        26 => hns_p2p_blocks::read_getproof(payload),
+        26 => hns_p2p_blocks::read_getproof_fields(payload),
         27 => Packet::Proof(all),
         28 => Packet::Claim(all),
         29 => Packet::Airdrop(all),
@@ -56,13 +59,14 @@ fn read_fields(packet_type: u8, payload: &[u8]) -> Packet
     }
 }
 
-// The packet that a payload of a type reads as, or the refusal. Its text stays where it is, so that 16 is none here.
-pub fn read_payload(packet_type: u8, payload: &[u8]) -> Packet
-    ensures { λ r. ⌜ r ≡ packetOf «packet_type» (now (payload .entry)) ⌝ }
+// The packet that a payload of a type reads as under terms, or the refusal. Its text stays where it is, so that 16 is none
+// here. A refusal is returned by itself: joined with the packets of `read_fields`, it would cost each of them two nanoseconds.
+pub fn read_payload(terms: &[u64], packet_type: u8, payload: &[u8]) -> Packet
+    ensures { λ r. ⌜ r ≡ packetUnder (termsOf (now (terms .entry))) «packet_type» (now (payload .entry)) ⌝ }
 {
-    let length = payload.len();
-    if 8_000_000 < length {
-        return Packet::Refused(Refusal::payload_too_large(length));
+    let checked = hns_p2p_admission::admit(terms, packet_type, payload.len());
+    if let Checked::Refused(why) = checked {
+        return Packet::Refused(why);
     }
     read_fields(packet_type, payload)
 }
@@ -94,11 +98,11 @@ fn put_text(payload: &[u8], start: usize, size: usize, text: &mut [u8])
 }
 
 // As `read_payload`, and the agent or the reason, each byte without its top bit, goes to the front of `text`.
-pub fn read_packet(packet_type: u8, payload: &[u8], text: &mut [u8]) -> Packet
-    ensures { λ r. ⌜ r ≡ readPacket «packet_type» (now (payload .entry)) (now (text .entry)) .packet ⌝ }
-    ensures { λ _. ⌜ now (text .exit) ≡ readPacket «packet_type» (now (payload .entry)) (now (text .entry)) .text ⌝ }
+pub fn read_packet(terms: &[u64], packet_type: u8, payload: &[u8], text: &mut [u8]) -> Packet
+    ensures { λ r. ⌜ r ≡ readPacketUnder (termsOf (now (terms .entry))) «packet_type» (now (payload .entry)) (now (text .entry)) .packet ⌝ }
+    ensures { λ _. ⌜ now (text .exit) ≡ readPacketUnder (termsOf (now (terms .entry))) «packet_type» (now (payload .entry)) (now (text .entry)) .text ⌝ }
 {
-    let packet = read_payload(packet_type, payload);
+    let packet = read_payload(terms, packet_type, payload);
     let span = text_span(packet);
     let start = span.start;
     let size = span.length;

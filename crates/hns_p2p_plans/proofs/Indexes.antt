@@ -14,10 +14,11 @@ use Rattle.hns_encoding.specs.Format.{differences, Rising}
 use Rattle.hns_encoding.proofs.Forward.{drop-next}
 use Rattle.hns_p2p_plans.proofs.Compacts.{compact-most}
 use Rattle.hns_p2p_plans.proofs.Tests.{choose-passed, first-passed, size-passed}
-use Rattle.hns_p2p_plans.specs.declared.Checked.the-variants as C
+use Rattle.hns_refusals.specs.declared.Checked.the-variants as C
 use Rattle.hns_p2p_plans.specs.declared.Plan.{Plan}
 use Rattle.hns_p2p_plans.specs.declared.Plan.the-variants as P
-use Rattle.hns_p2p_plans.specs.Tests.{first, planOf, rising, fewIndexes, indexTests}
+use Rattle.hns_refusals.specs.Checks.{first}
+use Rattle.hns_p2p_plans.specs.Tests.{planOf, rising, fewIndexes, indexTests}
 use Rattle.hns_p2p_plans.specs.Laws.{IndexesFit, IndexesPass}
 
 -- ---- the tests

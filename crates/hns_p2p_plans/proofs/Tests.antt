@@ -9,11 +9,12 @@ use Rattle.hns_encoding.specs.Bytes.{choose}
 use borrow.Author.Tests.{le-leb, lt-leb, leb-true}
 use Rattle.hns_refusals.specs.declared.Refusal.{Refusal}
 use Rattle.hns_refusals.specs.Refusals.{payloadTooLarge, outputShort, overLimit}
-use Rattle.hns_p2p_plans.specs.declared.Checked.{Checked}
-use Rattle.hns_p2p_plans.specs.declared.Checked.the-variants as C
+use Rattle.hns_refusals.specs.declared.Checked.{Checked}
+use Rattle.hns_refusals.specs.declared.Checked.the-variants as C
 use Rattle.hns_p2p_plans.specs.declared.Plan.{Plan}
 use Rattle.hns_p2p_plans.specs.declared.Plan.the-variants as P
-use Rattle.hns_p2p_plans.specs.Tests.{first, within, room, planOf, planned}
+use Rattle.hns_refusals.specs.Checks.{first}
+use Rattle.hns_p2p_plans.specs.Tests.{within, room, planOf, planned}
 
 -- ---- the tests
 

@@ -13,10 +13,11 @@ use Rattle.hns_encoding.specs.Bytes.{choose}
 use Rattle.hns_encoding.specs.Format.{All}
 use Rattle.hns_encoding.proofs.Forward.{drop-next}
 use Rattle.hns_p2p_types.specs.Protocol.{carriesHash}
-use Rattle.hns_p2p_plans.specs.declared.Checked.{Checked}
-use Rattle.hns_p2p_plans.specs.declared.Checked.the-variants as C
+use Rattle.hns_refusals.specs.declared.Checked.{Checked}
+use Rattle.hns_refusals.specs.declared.Checked.the-variants as C
 use Rattle.hns_p2p_plans.specs.Laws.{TextFit, TextPass}
-use Rattle.hns_p2p_plans.specs.Tests.{first, within, ascii, textTests, hashTest, rejectTests}
+use Rattle.hns_refusals.specs.Checks.{first}
+use Rattle.hns_p2p_plans.specs.Tests.{within, ascii, textTests, hashTest, rejectTests}
 use Rattle.hns_p2p_plans.proofs.Tests.{choose-passed, first-passed, within-passed, within-limit, over, answered}
 
 -- ---- the tests

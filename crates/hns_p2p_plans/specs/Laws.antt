@@ -3,7 +3,7 @@ use Prim.Native.Nat.{ℕ}
 use mathlib.Core.Path.{_≡_}
 use mathlib.Core.List.{List}
 use Rattle.hns_encoding.specs.Format.{text, indexes, Fit}
-use Rattle.hns_p2p_plans.specs.declared.Checked.the-variants as C
+use Rattle.hns_refusals.specs.declared.Checked.the-variants as C
 use Rattle.hns_p2p_plans.specs.Tests.{textTests, indexTests}
 
 -- `indexes-fit` and `indexes-pass`, proofs/Indexes.antt

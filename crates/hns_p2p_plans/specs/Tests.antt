@@ -4,19 +4,15 @@ use mathlib.Core.List.{List, [], _∷_}
 use mathlib.Core.Bool.{Bool, true, false, _&&_}
 use lib.ListN.{length}
 use lib.Dec.{leb}
+use Rattle.hns_refusals.specs.Checks.{first}
 use Rattle.hns_refusals.specs.Limits.{maxPayload, maxText, maxIndexes, maxIndex}
 use Rattle.hns_refusals.specs.Refusals.{payloadTooLarge, outputShort, overLimit, notAscii, hashPresence, tooManyIndexes, indexTooLarge, notRising, reasonField}
 use Rattle.hns_encoding.specs.Bytes.{choose}
 use Rattle.hns_p2p_types.specs.Protocol.{carriesHash}
-use Rattle.hns_p2p_plans.specs.declared.Checked.{Checked}
-use Rattle.hns_p2p_plans.specs.declared.Checked.the-variants as C
+use Rattle.hns_refusals.specs.declared.Checked.{Checked}
+use Rattle.hns_refusals.specs.declared.Checked.the-variants as C
 use Rattle.hns_p2p_plans.specs.declared.Plan.{Plan}
 use Rattle.hns_p2p_plans.specs.declared.Plan.the-variants as P
-
--- one test and then another: the first refusal is the answer
-unfoldable pub first : Checked → Checked → Checked
-first C.Passed next = next
-first (C.Refused r) next = C.Refused r
 
 -- refusal 7: at most so many
 unfoldable pub within : ℕ → ℕ → ℕ → Checked

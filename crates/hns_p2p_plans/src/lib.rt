@@ -1,4 +1,5 @@
 // What a writer tests before it stores a byte: how long the payload is to be, or the refusal.
+use hns_refusals::Checked;
 use hns_refusals::Refusal;
 ghost use mathlib.Core.Path.{_≡_};
 ghost use Prim.Native.Nat.{_+_, _*_, _≤_};
@@ -10,13 +11,7 @@ ghost use Rattle.hns_encoding.specs.Compact.{compactBytes};
 ghost use Rattle.hns_encoding.specs.Format.{differences};
 ghost use Rattle.hns_p2p_types.specs.Protocol.{carriesHash};
 ghost use Rattle.hns_p2p_plans.specs.Tests.{within, textTests, hashTest, rejectTests, indexTests, planOf, planned};
-ghost use Rattle.hns_p2p_plans.specs.declared.Checked.the-variants.{Passed};
-
-// What a test answers.
-pub enum Checked {
-    Passed,
-    Refused(Refusal),
-}
+ghost use Rattle.hns_refusals.specs.declared.Checked.the-variants.{Passed};
 
 // How many bytes are to be written, or the refusal.
 pub enum Plan {

@@ -22,14 +22,17 @@ use Rattle.hns_encoding.proofs.Outcomes.{toEnd-got, bytes-got}
 use Rattle.hns_encoding.proofs.Reading.{raw-there}
 use Rattle.hns_encoding.proofs.Rewritten.{rewritten}
 use Rattle.hns_header_consensus.specs.Layout.{header}
-use Rattle.hns_p2p_types.proofs.Payloads.{by-got, by-reads}
+use Rattle.hns_p2p_types.proofs.Payloads.{by-reads}
 use Rattle.hns_p2p_types.specs.declared.Span.{Span}
 use Rattle.hns_p2p_types.specs.declared.Hash.the-variants as H
 use Rattle.hns_p2p_types.specs.declared.Packet.{Packet}
 use Rattle.hns_p2p_types.specs.declared.Packet.the-variants as P
 use Rattle.hns_p2p_types.proofs.Packet as packets
-use Rattle.hns_p2p_types.specs.Protocol.{address, addresses, inventoryItem, inventory, locator, headers, version, reject, carriesHash, getblocktxn, getproof, readBy}
-use Rattle.hns_p2p_types.specs.Packets.{addressAt, spanAt, itemsAt, versionPacket, rejectPacket, Row, rows, rawBytes, row, layout, _&_, texted, Answer, readPacket}
+use Rattle.hns_p2p_types.specs.Protocol.{address, addresses, inventoryItem, inventory, locator, headers, version, reject, carriesHash, getblocktxn, getproof}
+use Rattle.hns_p2p_types.specs.Packets.{addressAt, spanAt, itemsAt, versionPacket, rejectPacket, Row, rows, rawBytes, row, layout, _&_, texted, Answer}
+use Rattle.hns_p2p_rights.specs.Terms.{Terms}
+use Rattle.hns_p2p_admission.specs.Reading.{readUnder, readPacketUnder}
+use Rattle.hns_p2p_admission.proofs.Admitted.{under-got}
 use Rattle.hns_p2p_lists.proofs.Listed.{list-stands}
 use Rattle.hns_p2p_packet.proofs.Texts.{flat-got}
 use Rattle.hns_p2p_laws.specs.Places.{hashPlace, rawPlaces, rejectedPart, columns, partsOf, standing}
@@ -40,7 +43,7 @@ use Rattle.hns_p2p_block_puts.specs.declared.VersionFields.{VersionFields}
 use Rattle.hns_p2p_writer.specs.Writing.{exit}
 use Rattle.hns_p2p_writer.specs.Writers.{givesVersion, givesEmpty, givesNonce, givesAddr, givesInventory, givesLocator, givesHeaders, givesReject, givesFeeFilter, givesSendCmpct, givesGetBlockTxn, givesGetProof, givesRaw}
 use Rattle.hns_p2p_wire.specs.Table.{Writer, by, writers, writer, flatOf, flatAddresses, addressFields, versionFields, hashOf}
-use Rattle.hns_p2p_wire.specs.Demand3.{rewriting}
+use Rattle.hns_p2p_wire.specs.Demand3.{rewriting, rewritingUnder}
 use Rattle.hns_p2p_wire.specs.NotKept.{Keeping}
 use Rattle.hns_p2p_wire.proofs.Demand3.{front-is, Claim, EachRow, of-type}
 use Rattle.hns_p2p_wire.proofs.NotKept.{whole-kept}
@@ -236,21 +239,21 @@ row-as t = of-type Says t (raw-row (P.Unknown t) (λ x o k s w e. e)) said
 -- ---- the code's answer
 
 -- a payload that was read with an output of 255 bytes for its text
-module _ (t : ℕ) (s : List ℕ) (bs : Bytes s) (z : List ℕ) (room : length z ≡ 255) (o : List ℕ) where
+module _ (u : Terms) (t : ℕ) (s : List ℕ) (bs : Bytes s) (z : List ℕ) (room : length z ≡ 255) (o : List ℕ) where
   abbrev answer : Answer
-  answer = readPacket t s z
+  answer = readPacketUnder u t s z
 
-  by-reading : (u : Outcome (Value (layout t (length s)))) → readBy (layout t) s ≡ u → As (answer .packet) s (answer .text) o (rewriting t s o)
-  unfolding readPacket rewriting texted
+  by-reading : (q : Outcome (Value (layout t (length s)))) → readUnder u t s ≡ q → As (answer .packet) s (answer .text) o (rewritingUnder u t s o)
+  unfolding readPacketUnder rewritingUnder texted
   by-reading (stop r) e = rw e refl
   by-reading (got v last) e =
-      let g = by-got (layout t) s e in
-      let r = row-as t s bs (g .0) v last (g .1) in
+      let g = under-got u t s e in
+      let r = row-as t s bs (g .small) v last (g .whole) in
       let short : length (row t .text s v) ≤ length z = omega (arith, r .few) in
       rw (e, le-leb (length (row t .text s v)) (length z) short) (r .as-said (splice z 0 (row t .text s v)) o (front-is (row t .text s v) z short))
 
-  pub as-read : {p : Packet} {x : List ℕ} → p ≡ answer .packet → x ≡ answer .text → As p s x o (rewriting t s o)
-  as-read e q = rw (e, q) (by-reading (readBy (layout t) s) refl)
+  pub as-read : {p : Packet} {x : List ℕ} → p ≡ answer .packet → x ≡ answer .text → As p s x o (rewritingUnder u t s o)
+  as-read e q = rw (e, q) (by-reading (readUnder u t s) refl)
 
 -- ---- packets that no arm names: raw bytes
 

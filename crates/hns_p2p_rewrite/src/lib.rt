@@ -16,11 +16,12 @@ ghost use Rattle.hns_encoding.specs.Bytes.{rawAt};
 ghost use Rattle.hns_encoding.specs.Format.{write, valuesAt};
 ghost use Rattle.hns_encoding.specs.Put.{Put};
 ghost use Rattle.hns_p2p_types.specs.Protocol.{address};
+ghost use Rattle.hns_p2p_rights.specs.Terms.{termsOf};
 ghost use Rattle.hns_p2p_list_puts.specs.Fields.{flatAddress};
 ghost use Rattle.hns_p2p_writer.specs.Writing.{exit};
 ghost use Rattle.hns_p2p_writer.specs.Writers.{givesVersion, givesAddr, givesInventory, givesLocator, givesReject, givesGetProof};
 ghost use Rattle.hns_p2p_wire.specs.Table.{flatAddresses};
-ghost use Rattle.hns_p2p_wire.specs.Demand3.{rewriting};
+ghost use Rattle.hns_p2p_wire.specs.Demand3.{rewriting, rewritingUnder};
 ghost use Rattle.hns_p2p_fields.specs.Fields.{versionFieldsIn, present, hashIn};
 ghost use Rattle.hns_p2p_rewrite.specs.Helpers.{flatFields};
 
@@ -109,11 +110,14 @@ fn rewrite_reject(payload: &[u8], reject: RejectPacket, text: &[u8], out: &mut [
     hns_p2p_writer::write_reject(reject.message, reject.code, reason, carried, hash, out)
 }
 
+// The payload was admitted when it was read as a packet. Its indexes are read under no terms, under which every type may be
+// sent, so that the answer is document 01's.
 fn rewrite_getblocktxn(payload: &[u8], out: &mut [u8]) -> Encoded
     ensures { λ r. ⌜ exit r (now (out .exit)) ≡ rewriting 24 (now (payload .entry)) (now (out .entry)) ⌝ }
 {
     let mut indexes = [0u64; 16_662];
-    match hns_p2p_indexes::indexes(payload, &mut indexes) {
+    let no_terms = [0u64; 0];
+    match hns_p2p_indexes::indexes(&no_terms, payload, &mut indexes) {
         Stored::Refused(why) => Encoded::Refused(why),
         Stored::Count(n) => {
             let hash = hns_encoder::array32_at(payload, 0);
@@ -131,11 +135,11 @@ fn rewrite_getproof(payload: &[u8], out: &mut [u8]) -> Encoded
 }
 
 // The payload's own refusal, or what its writer answers; a refusal writes nothing.
-pub fn rewrite(packet_type: u8, payload: &[u8], out: &mut [u8]) -> Encoded
-    ensures { λ r. ⌜ exit r (now (out .exit)) ≡ rewriting «packet_type» (now (payload .entry)) (now (out .entry)) ⌝ }
+pub fn rewrite(terms: &[u64], packet_type: u8, payload: &[u8], out: &mut [u8]) -> Encoded
+    ensures { λ r. ⌜ exit r (now (out .exit)) ≡ rewritingUnder (termsOf (now (terms .entry))) «packet_type» (now (payload .entry)) (now (out .entry)) ⌝ }
 {
     let mut text = [0u8; 255];
-    match hns_p2p_packet::read_packet(packet_type, payload, &mut text) {
+    match hns_p2p_packet::read_packet(terms, packet_type, payload, &mut text) {
         Packet::Refused(why) => Encoded::Refused(why),
         Packet::Version(v) => rewrite_version(payload, v, &text, out),
         Packet::Verack => hns_p2p_writer::write_empty(out),

@@ -22,9 +22,10 @@ use Rattle.hns_p2p_types.specs.Protocol.{address, version, feefilter, carriesHa
 use Rattle.hns_p2p_types.specs.Packets.{signed, signedBits}
 use Rattle.hns_p2p_frame.specs.declared.Encoded.the-variants as E
 use Rattle.hns_p2p_frame.specs.Frame.{Written}
-use Rattle.hns_p2p_plans.specs.declared.Checked.{Checked}
-use Rattle.hns_p2p_plans.specs.declared.Checked.the-variants as C
-use Rattle.hns_p2p_plans.specs.Tests.{first, room, textTests, rejectTests}
+use Rattle.hns_refusals.specs.declared.Checked.{Checked}
+use Rattle.hns_refusals.specs.declared.Checked.the-variants as C
+use Rattle.hns_refusals.specs.Checks.{first}
+use Rattle.hns_p2p_plans.specs.Tests.{room, textTests, rejectTests}
 use Rattle.hns_p2p_plans.proofs.Tests.{choose-passed, first-passed, within-passed}
 use Rattle.hns_p2p_plans.proofs.Indexes.{indexes-fit}
 use Rattle.hns_p2p_plans.proofs.Texts.{text-fit}

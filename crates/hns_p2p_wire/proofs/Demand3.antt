@@ -14,21 +14,25 @@ use Rattle.hns_encoding.specs.Put.{splice}
 use Rattle.hns_encoding.proofs.Numbers.{lt-or-ge}
 use Rattle.hns_encoding.proofs.Puts.{splice-fits}
 use Rattle.hns_encoding.proofs.Rewritten.{rewritten}
-use Rattle.hns_p2p_types.proofs.Payloads.{by-got}
+use Rattle.hns_p2p_types.proofs.Payloads.{by-got, by-reads}
 use Rattle.hns_p2p_types.specs.declared.Packet.{Packet}
 use Rattle.hns_p2p_types.specs.declared.Packet.the-variants as P
 use Rattle.hns_p2p_types.specs.declared.Hash.the-variants as H
 use Rattle.hns_p2p_types.specs.Protocol.{carriesHash, Layout, readBy}
 use Rattle.hns_p2p_types.specs.Packets.{spanAt, itemsAt, signed, signedBits, versionPacket, agentOf, reasonOf, Row, rows, rawBytes, row, layout, _&_, entry, answered, packetOf, answerBy, texted, readPacket, Answer}
+use Rattle.hns_p2p_rights.specs.Terms.{Terms}
+use Rattle.hns_p2p_admission.specs.Admission.{admitted}
+use Rattle.hns_p2p_admission.specs.Reading.{readUnder, readPacketUnder}
+use Rattle.hns_p2p_admission.proofs.Admitted.{under-got, readings}
 use Rattle.hns_p2p_stream.proofs.Demand3.{demand-3}
 use Rattle.hns_p2p_frame.specs.Frame.{Written}
-use Rattle.hns_p2p_plans.specs.declared.Checked.{Checked}
-use Rattle.hns_p2p_plans.specs.declared.Checked.the-variants as C
+use Rattle.hns_refusals.specs.declared.Checked.{Checked}
+use Rattle.hns_refusals.specs.declared.Checked.the-variants as C
 use Rattle.hns_p2p_writer.specs.Writing.{writing}
 use Rattle.hns_p2p_writer.specs.Writers.{givesRaw}
 use Rattle.hns_p2p_wire.proofs.Given.{Given, indexes-given, addresses-given, inventory-given, locator-given, headers-given, version-given, reject-given, given-again}
 use Rattle.hns_p2p_wire.specs.Table.{Writer, by, writers, writer}
-use Rattle.hns_p2p_wire.specs.Demand3.{reading, Again, Rewrites, fromValue, SameAnswer, rewriting, OneCall, Demand3Whole}
+use Rattle.hns_p2p_wire.specs.Demand3.{reading, Again, Rewrites, fromValue, SameAnswer, rewriting, OneCall, rewritingUnder, AgainUnder, Demand3Whole}
 use Rattle.hns_p2p_wire.specs.NotKept.{zeroed}
 use Rattle.hns_p2p_wire.proofs.NotKept.{not-kept}
 
@@ -256,5 +260,38 @@ one-call : OneCall
 unfolding rewriting
 one-call t s bs v last e o k = rw e (rewrites t s bs v last e o k)
 
+-- ---- under terms
+
+module _ (u : Terms) (t : ℕ) (s : List ℕ) (bs : Bytes s) (v : Value (layout t (length s))) (last : ℕ) (e : readUnder u t s ≡ got v last) where
+  plainly : readBy (layout t) s ≡ got v last
+  plainly = let g = under-got u t s e in by-reads (layout t) s (g .small) (g .whole)
+
+  -- what is written is as long, so that it is admitted too
+  admits-again : admitted u t (length (zeroed (layout t) s)) ≡ C.Passed
+  admits-again = ap (admitted u t) (long (layout t) s bs v last plainly) ∙ under-got u t s e .admits
+
+  reads-again : readUnder u t (zeroed (layout t) s) ≡ readBy (layout t) (zeroed (layout t) s)
+  reads-again = readings .passed u t (zeroed (layout t) s) admits-again
+
+  again-under : (o : List ℕ) → length s ≤ length o → AgainUnder u t s v o
+  unfolding rewritingUnder readPacketUnder readPacket
+  again-under o k =
+      let z = zeroed (layout t) s in
+      record {
+        again = rw e (rewrites t s bs v last plainly o k);
+        same = ap (λ (q : Outcome (Value (layout t (length z)))). (length z, q)) reads-again ∙ same-reading (layout t) s bs v last plainly;
+        answer = λ x. ap (λ (q : Outcome (Value (layout t (length z)))). answerBy (row t .packet z) (row t .text z) q x) reads-again
+            ∙ (same-answer .text t s bs v last plainly x
+            ∙ ap (λ (q : Outcome (Value (layout t (length s)))). answerBy (row t .packet s) (row t .text s) q x) (plainly ∙ sym e));
+      }
+
 pub demand-3-whole : Demand3Whole
-demand-3-whole = record { pushes = demand-3; payloads = rewrites; one-call = one-call; not-kept = not-kept; answers = same-answer }
+demand-3-whole =
+    record {
+      pushes = demand-3;
+      payloads = rewrites;
+      one-call = one-call;
+      not-kept = not-kept;
+      answers = same-answer;
+      under-terms = again-under;
+    }

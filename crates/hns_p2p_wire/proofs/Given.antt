@@ -19,9 +19,10 @@ use Rattle.hns_header_consensus.specs.Layout.{header}
 use Rattle.hns_p2p_types.specs.Protocol.{addresses, inventoryItem, inventory, locator, headers, version, reject, getblocktxn, carriesHash}
 use Rattle.hns_p2p_types.specs.Packets.{agentOf, reasonOf}
 use Rattle.hns_p2p_frame.specs.declared.Encoded.the-variants as E
-use Rattle.hns_p2p_plans.specs.declared.Checked.{Checked}
-use Rattle.hns_p2p_plans.specs.declared.Checked.the-variants as C
-use Rattle.hns_p2p_plans.specs.Tests.{first, within, room, textTests, hashTest, rejectTests, indexTests}
+use Rattle.hns_refusals.specs.declared.Checked.{Checked}
+use Rattle.hns_refusals.specs.declared.Checked.the-variants as C
+use Rattle.hns_refusals.specs.Checks.{first}
+use Rattle.hns_p2p_plans.specs.Tests.{within, room, textTests, hashTest, rejectTests, indexTests}
 use Rattle.hns_p2p_plans.proofs.Tests.{within-limit}
 use Rattle.hns_p2p_plans.proofs.Indexes.{indexes-pass}
 use Rattle.hns_p2p_plans.proofs.Texts.{text-pass}

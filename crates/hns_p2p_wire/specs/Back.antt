@@ -14,8 +14,8 @@ use Rattle.hns_encoding.specs.Format.{Format, raw, counted, Value, read, write,
 use Rattle.hns_p2p_types.specs.Protocol.{address, addresses, nonce, locator, version, reject, feefilter, sendcmpct, getblocktxn, getproof}
 use Rattle.hns_p2p_types.specs.Packets.{signed, signedBits}
 use Rattle.hns_p2p_frame.specs.declared.Encoded.the-variants as E
-use Rattle.hns_p2p_plans.specs.declared.Checked.{Checked}
-use Rattle.hns_p2p_plans.specs.declared.Checked.the-variants as C
+use Rattle.hns_refusals.specs.declared.Checked.{Checked}
+use Rattle.hns_refusals.specs.declared.Checked.the-variants as C
 use Rattle.hns_p2p_plans.specs.Tests.{within, textTests, rejectTests, indexTests}
 use Rattle.hns_p2p_block_puts.specs.declared.AddressFields.{AddressFields}
 use Rattle.hns_p2p_block_puts.specs.declared.VersionFields.{VersionFields}

@@ -8,6 +8,8 @@ use Rattle.hns_encoding.specs.Format.{Value}
 use Rattle.hns_encoding.specs.Put.{splice}
 use Rattle.hns_p2p_types.specs.Protocol.{Layout, readBy}
 use Rattle.hns_p2p_types.specs.Packets.{layout, packetOf, readPacket}
+use Rattle.hns_p2p_rights.specs.Terms.{Terms}
+use Rattle.hns_p2p_admission.specs.Reading.{readUnder, readPacketUnder}
 use Rattle.hns_p2p_frame.specs.declared.Encoded.the-variants as E
 use Rattle.hns_p2p_frame.specs.Frame.{Written}
 use Rattle.hns_p2p_stream.specs.Stream.{Demand3Holds}
@@ -71,6 +73,26 @@ OneCall =
     (t : ℕ) (s : List ℕ) → Bytes s → (v : Value (layout t (length s))) (last : ℕ) → readBy (layout t) s ≡ got v last
     → (o : List ℕ) → length s ≤ length o → Again (layout t) s v o (rewriting t s o)
 
+-- ---- under terms
+
+-- the same of a payload that is read under terms
+unfoldable pub rewritingUnder : Terms → ℕ → List ℕ → List ℕ → Written
+rewritingUnder u t s o = rewrittenBy (fromValue t s) (readUnder u t s) o
+
+abbrev pub readingUnder : Terms → (t : ℕ) → List ℕ → Reading (layout t)
+readingUnder u t s = (length s, readUnder u t s)
+
+-- a payload that reads as v under terms is written again as the demand asks, and what is written reads under the same terms as the same packet
+pub record AgainUnder (u : Terms) (t : ℕ) (s : List ℕ) (v : Value (layout t (length s))) (o : List ℕ) : Type 0 where
+  pub again : Again (layout t) s v o (rewritingUnder u t s o)
+  pub same : readingUnder u t (zeroed (layout t) s) ≡ (length s, got v (length s))
+  pub answer : (x : List ℕ) → readPacketUnder u t (zeroed (layout t) s) x ≡ readPacketUnder u t s x
+
+abbrev pub UnderTerms : Type 0
+UnderTerms =
+    (u : Terms) (t : ℕ) (s : List ℕ) → Bytes s → (v : Value (layout t (length s))) (last : ℕ) → readUnder u t s ≡ got v last
+    → (o : List ℕ) → length s ≤ length o → AgainUnder u t s v o
+
 -- ---- the demand
 
 -- `demand-3-whole`, proofs/Demand3.antt
@@ -80,3 +102,4 @@ pub record Demand3Whole : Type 0 where
   pub one-call : OneCall
   pub not-kept : NotKept
   pub answers : SameAnswer
+  pub under-terms : UnderTerms

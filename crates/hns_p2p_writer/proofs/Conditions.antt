@@ -7,9 +7,10 @@ use borrow.Author.Tests.{le-leb, lt-leb}
 use Rattle.hns_refusals.specs.Limits.{maxPayload}
 use Rattle.hns_encoding.proofs.Outcomes.{choose-leb}
 use Rattle.hns_p2p_frame.specs.Frame.{Written}
-use Rattle.hns_p2p_plans.specs.declared.Checked.{Checked}
-use Rattle.hns_p2p_plans.specs.declared.Checked.the-variants as C
-use Rattle.hns_p2p_plans.specs.Tests.{first, room}
+use Rattle.hns_refusals.specs.declared.Checked.{Checked}
+use Rattle.hns_refusals.specs.declared.Checked.the-variants as C
+use Rattle.hns_refusals.specs.Checks.{first}
+use Rattle.hns_p2p_plans.specs.Tests.{room}
 use Rattle.hns_p2p_writer.specs.Writing.{settle, writing}
 use Rattle.hns_p2p_writer.specs.Conditions as W
 use Rattle.hns_p2p_writer.specs.Conditions.{WritingIs, WritingExactly, PlanLengths}

@@ -12,7 +12,7 @@ use Rattle.hns_encoding.proofs.Numbers.{length-leBytes}
 use Rattle.hns_encoding.proofs.Puts.{put-none}
 use Rattle.hns_p2p_types.specs.Protocol.{empty, addresses, inventory, locator, headers, version, reject, carriesHash, sendcmpct, getblocktxn, getproof}
 use Rattle.hns_p2p_frame.specs.declared.Encoded.the-variants as E
-use Rattle.hns_p2p_plans.specs.declared.Checked.the-variants as C
+use Rattle.hns_refusals.specs.declared.Checked.the-variants as C
 use Rattle.hns_p2p_plans.proofs.Tests.{has-room}
 use Rattle.hns_p2p_block_puts.specs.declared.VersionFields.{VersionFields}
 use Rattle.hns_p2p_block_puts.specs.Fields.{versionOf, hashIf, rejectOf}

@@ -7,11 +7,12 @@ use Rattle.hns_refusals.specs.declared.Refusal.{Refusal}
 use Rattle.hns_encoding.specs.Put.{Put}
 use Rattle.hns_p2p_frame.specs.declared.Encoded.the-variants as E
 use Rattle.hns_p2p_frame.specs.Frame.{Written}
-use Rattle.hns_p2p_plans.specs.declared.Checked.{Checked}
-use Rattle.hns_p2p_plans.specs.declared.Checked.the-variants as C
+use Rattle.hns_refusals.specs.declared.Checked.{Checked}
+use Rattle.hns_refusals.specs.declared.Checked.the-variants as C
 use Rattle.hns_p2p_plans.specs.declared.Plan.{Plan}
 use Rattle.hns_p2p_plans.specs.declared.Plan.the-variants as P
-use Rattle.hns_p2p_plans.specs.Tests.{first, room, planned}
+use Rattle.hns_refusals.specs.Checks.{first}
+use Rattle.hns_p2p_plans.specs.Tests.{room, planned}
 use Rattle.hns_p2p_plans.proofs.Tests.{plan-of-write, plan-of-refused}
 use Rattle.hns_p2p_writer.specs.Writing.{exit, settle, writing}
 

@@ -13,8 +13,8 @@ use Rattle.hns_encoding.specs.Put.{splice}
 use Rattle.hns_p2p_types.specs.Protocol.{address, addresses, inventoryItem, inventory, locator, headers, version, reject, carriesHash, getblocktxn}
 use Rattle.hns_p2p_frame.specs.declared.Encoded.the-variants as E
 use Rattle.hns_p2p_frame.specs.Frame.{Written}
-use Rattle.hns_p2p_plans.specs.declared.Checked.{Checked}
-use Rattle.hns_p2p_plans.specs.declared.Checked.the-variants as C
+use Rattle.hns_refusals.specs.declared.Checked.{Checked}
+use Rattle.hns_refusals.specs.declared.Checked.the-variants as C
 use Rattle.hns_p2p_block_puts.specs.declared.VersionFields.{VersionFields}
 use Rattle.hns_p2p_block_puts.specs.Fields.{versionOf, rejectOf}
 use Rattle.hns_p2p_list_puts.specs.Fields.{flatAddress, addressesOf, inventoryOf, hashesOf, headersOf}

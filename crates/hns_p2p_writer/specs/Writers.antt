@@ -10,7 +10,7 @@ use Rattle.hns_encoding.specs.Format.{raw, size, write}
 use Rattle.hns_p2p_types.specs.Protocol.{empty, nonce, addresses, inventoryItem, inventory, locator, headers, version, reject, feefilter, sendcmpct, getblocktxn, getproof}
 use Rattle.hns_p2p_types.specs.Packets.{signedBits}
 use Rattle.hns_p2p_frame.specs.Frame.{Written}
-use Rattle.hns_p2p_plans.specs.declared.Checked.the-variants.{Passed}
+use Rattle.hns_refusals.specs.declared.Checked.the-variants.{Passed}
 use Rattle.hns_p2p_plans.specs.Tests.{within, textTests, rejectTests, indexTests}
 use Rattle.hns_p2p_block_puts.specs.declared.VersionFields.{VersionFields}
 use Rattle.hns_p2p_block_puts.specs.Fields.{versionOf, rejectOf}

@@ -6,9 +6,10 @@ use Rattle.hns_encoding.specs.Put.{splice}
 use Rattle.hns_p2p_frame.specs.declared.Encoded.{Encoded}
 use Rattle.hns_p2p_frame.specs.declared.Encoded.the-variants as E
 use Rattle.hns_p2p_frame.specs.Frame.{Written}
-use Rattle.hns_p2p_plans.specs.declared.Checked.{Checked}
-use Rattle.hns_p2p_plans.specs.declared.Checked.the-variants as C
-use Rattle.hns_p2p_plans.specs.Tests.{first, room}
+use Rattle.hns_refusals.specs.declared.Checked.{Checked}
+use Rattle.hns_refusals.specs.declared.Checked.the-variants as C
+use Rattle.hns_refusals.specs.Checks.{first}
+use Rattle.hns_p2p_plans.specs.Tests.{room}
 
 abbrev pub exit : Encoded → List ℕ → Written
 exit r o = record { answer = r; output = o }

@@ -86,6 +86,14 @@ noItem = refusal 19 0 0 0
 abbrev pub tallyFull : Refusal
 tallyFull = refusal 20 0 0 0
 
+-- a role above 7
+abbrev pub noRole : Refusal
+noRole = refusal 21 0 0 0
+
+-- a type that the role may not send
+abbrev pub notGranted : Refusal
+notGranted = refusal 22 0 0 0
+
 -- codes of fields, for value c
 abbrev pub addressField : ℕ
 addressField = 1

@@ -1,6 +1,6 @@
 // The table of refusals of documents 01 and 02: one type for the whole repository, and a constructor for each row that the code gives.
 ghost use mathlib.Core.Path.{_≡_};
-ghost use Rattle.hns_refusals.specs.Refusals.{unexpectedEnd, notShortest, trailingBytes, magicMismatch, payloadTooLarge, streamTooLarge, overLimit, incompleteFrame, indexOver, notAscii, hashPresence, tooManyIndexes, indexTooLarge, notRising, headerLength, outputShort, storeShort, heldOver, noItem, tallyFull};
+ghost use Rattle.hns_refusals.specs.Refusals.{unexpectedEnd, notShortest, trailingBytes, magicMismatch, payloadTooLarge, streamTooLarge, overLimit, incompleteFrame, indexOver, notAscii, hashPresence, tooManyIndexes, indexTooLarge, notRising, headerLength, outputShort, storeShort, heldOver, noItem, tallyFull, noRole, notGranted};
 
 // A refusal as the documents' table has it: its number and its values, 0 where unnamed.
 pub struct Refusal {
@@ -8,6 +8,12 @@ pub struct Refusal {
     pub a: u64,
     pub b: u64,
     pub c: u64,
+}
+
+// What a test answers.
+pub enum Checked {
+    Passed,
+    Refused(Refusal),
 }
 
 impl Refusal {
@@ -50,6 +56,10 @@ impl Refusal {
     pub const NO_ITEM: u64 = 19;
 
     pub const TALLY_FULL: u64 = 20;
+
+    pub const NO_ROLE: u64 = 21;
+
+    pub const NOT_GRANTED: u64 = 22;
 
     // The bytes end in a field that begins at `offset`.
     pub fn unexpected_end(offset: usize, missing: usize) -> Refusal
@@ -285,6 +295,30 @@ impl Refusal {
     {
         Refusal {
             number: Refusal::TALLY_FULL,
+            a: 0,
+            b: 0,
+            c: 0,
+        }
+    }
+
+    // A role above 7.
+    pub fn no_role() -> Refusal
+        ensures { λ r. ⌜ r ≡ noRole ⌝ }
+    {
+        Refusal {
+            number: Refusal::NO_ROLE,
+            a: 0,
+            b: 0,
+            c: 0,
+        }
+    }
+
+    // A type that the role may not send.
+    pub fn not_granted() -> Refusal
+        ensures { λ r. ⌜ r ≡ notGranted ⌝ }
+    {
+        Refusal {
+            number: Refusal::NOT_GRANTED,
             a: 0,
             b: 0,
             c: 0,

@@ -1,6 +1,6 @@
 -- `listing` meets its contract.
 use mathlib.Core.Path.{ap, _∙_}
-use Rattle.hns_p2p_items.specs.Listings.{listIn, listingOf}
+use Rattle.hns_p2p_items.specs.Listings.{listIn, listingUnder}
 use borrow.Author.Needs.{needs}
 use Rattle.hns_p2p_items.proofs.listing.Statement.{statement}
 use Rattle.hns_p2p_items.proofs.listing.Tie as tie
@@ -12,7 +12,7 @@ list-in-requires : tie.Need-list-in-requires
 list-in-requires c κs = search needs
 
 returns : tie.Need-returns
-unfolding listingOf
+unfolding listingUnder
 returns c = c .list-in .ensures ∙ ap listIn (c .before .read-payload .ensures)
 
 pub listing-spec : {M : Type 1} → statement M

@@ -7,47 +7,47 @@ use borrow.Author.Needs.{needs}
 use Rattle.hns_p2p_packet.proofs.read_fields.Statement.{statement}
 use Rattle.hns_p2p_packet.proofs.read_fields.Tie as tie
 
-read-version-requires : tie.Need-read-version-requires
-read-version-requires c κs = search needs
+read-version-fields-requires : tie.Need-read-version-fields-requires
+read-version-fields-requires c κs = search needs
 
 close-requires : tie.Need-close-requires
 close-requires c κs = search needs
 
-read-ping-requires : tie.Need-read-ping-requires
-read-ping-requires c κs = search needs
+read-ping-fields-requires : tie.Need-read-ping-fields-requires
+read-ping-fields-requires c κs = search needs
 
-read-pong-requires : tie.Need-read-pong-requires
-read-pong-requires c κs = search needs
+read-pong-fields-requires : tie.Need-read-pong-fields-requires
+read-pong-fields-requires c κs = search needs
 
 close-requires-2 : tie.Need-close-requires-2
 close-requires-2 c κs = search needs
 
-read-addr-requires : tie.Need-read-addr-requires
-read-addr-requires c κs = search needs
+read-addr-fields-requires : tie.Need-read-addr-fields-requires
+read-addr-fields-requires c κs = search needs
 
-read-inv-requires : tie.Need-read-inv-requires
-read-inv-requires c κs = search needs
+read-inv-fields-requires : tie.Need-read-inv-fields-requires
+read-inv-fields-requires c κs = search needs
 
-read-getdata-requires : tie.Need-read-getdata-requires
-read-getdata-requires c κs = search needs
+read-getdata-fields-requires : tie.Need-read-getdata-fields-requires
+read-getdata-fields-requires c κs = search needs
 
-read-notfound-requires : tie.Need-read-notfound-requires
-read-notfound-requires c κs = search needs
+read-notfound-fields-requires : tie.Need-read-notfound-fields-requires
+read-notfound-fields-requires c κs = search needs
 
-read-getblocks-requires : tie.Need-read-getblocks-requires
-read-getblocks-requires c κs = search needs
+read-getblocks-fields-requires : tie.Need-read-getblocks-fields-requires
+read-getblocks-fields-requires c κs = search needs
 
-read-getheaders-requires : tie.Need-read-getheaders-requires
-read-getheaders-requires c κs = search needs
+read-getheaders-fields-requires : tie.Need-read-getheaders-fields-requires
+read-getheaders-fields-requires c κs = search needs
 
-read-headers-requires : tie.Need-read-headers-requires
-read-headers-requires c κs = search needs
+read-headers-fields-requires : tie.Need-read-headers-fields-requires
+read-headers-fields-requires c κs = search needs
 
 close-requires-3 : tie.Need-close-requires-3
 close-requires-3 c κs = search needs
 
-read-reject-requires : tie.Need-read-reject-requires
-read-reject-requires c κs = search needs
+read-reject-fields-requires : tie.Need-read-reject-fields-requires
+read-reject-fields-requires c κs = search needs
 
 close-requires-4 : tie.Need-close-requires-4
 close-requires-4 c κs = search needs
@@ -55,55 +55,55 @@ close-requires-4 c κs = search needs
 close-requires-5 : tie.Need-close-requires-5
 close-requires-5 c κs = search needs
 
-read-feefilter-requires : tie.Need-read-feefilter-requires
-read-feefilter-requires c κs = search needs
+read-feefilter-fields-requires : tie.Need-read-feefilter-fields-requires
+read-feefilter-fields-requires c κs = search needs
 
-read-sendcmpct-requires : tie.Need-read-sendcmpct-requires
-read-sendcmpct-requires c κs = search needs
+read-sendcmpct-fields-requires : tie.Need-read-sendcmpct-fields-requires
+read-sendcmpct-fields-requires c κs = search needs
 
-read-getblocktxn-requires : tie.Need-read-getblocktxn-requires
-read-getblocktxn-requires c κs = search needs
+read-getblocktxn-fields-requires : tie.Need-read-getblocktxn-fields-requires
+read-getblocktxn-fields-requires c κs = search needs
 
-read-getproof-requires : tie.Need-read-getproof-requires
-read-getproof-requires c κs = search needs
+read-getproof-fields-requires : tie.Need-read-getproof-fields-requires
+read-getproof-fields-requires c κs = search needs
 
 returns : tie.Need-returns
-returns c = at-type _ (c .before .match .keys1) (c .read-version .ensures)
+returns c = at-type _ (c .before .match .keys1) (c .read-version-fields .ensures)
 
 returns-2 : tie.Need-returns-2
 unfolding fieldsOf row rows
 returns-2 c = let s = c .before .before .before .args .payload .now in at-type s (c .before .match .keys2) (empty-fields P.Verack s (c .close .ensures))
 
 returns-3 : tie.Need-returns-3
-returns-3 c = at-type _ (c .before .match .keys3) (c .read-ping .ensures)
+returns-3 c = at-type _ (c .before .match .keys3) (c .read-ping-fields .ensures)
 
 returns-4 : tie.Need-returns-4
-returns-4 c = at-type _ (c .before .match .keys4) (c .read-pong .ensures)
+returns-4 c = at-type _ (c .before .match .keys4) (c .read-pong-fields .ensures)
 
 returns-5 : tie.Need-returns-5
 unfolding fieldsOf row rows
 returns-5 c = let s = c .before .before .before .args .payload .now in at-type s (c .before .match .keys5) (empty-fields P.GetAddr s (c .close2 .ensures))
 
 returns-6 : tie.Need-returns-6
-returns-6 c = at-type _ (c .before .match .keys6) (c .read-addr .ensures)
+returns-6 c = at-type _ (c .before .match .keys6) (c .read-addr-fields .ensures)
 
 returns-7 : tie.Need-returns-7
-returns-7 c = at-type _ (c .before .match .keys7) (c .read-inv .ensures)
+returns-7 c = at-type _ (c .before .match .keys7) (c .read-inv-fields .ensures)
 
 returns-8 : tie.Need-returns-8
-returns-8 c = at-type _ (c .before .match .keys8) (c .read-getdata .ensures)
+returns-8 c = at-type _ (c .before .match .keys8) (c .read-getdata-fields .ensures)
 
 returns-9 : tie.Need-returns-9
-returns-9 c = at-type _ (c .before .match .keys9) (c .read-notfound .ensures)
+returns-9 c = at-type _ (c .before .match .keys9) (c .read-notfound-fields .ensures)
 
 returns-10 : tie.Need-returns-10
-returns-10 c = at-type _ (c .before .match .keys10) (c .read-getblocks .ensures)
+returns-10 c = at-type _ (c .before .match .keys10) (c .read-getblocks-fields .ensures)
 
 returns-11 : tie.Need-returns-11
-returns-11 c = at-type _ (c .before .match .keys11) (c .read-getheaders .ensures)
+returns-11 c = at-type _ (c .before .match .keys11) (c .read-getheaders-fields .ensures)
 
 returns-12 : tie.Need-returns-12
-returns-12 c = at-type _ (c .before .match .keys12) (c .read-headers .ensures)
+returns-12 c = at-type _ (c .before .match .keys12) (c .read-headers-fields .ensures)
 
 returns-13 : tie.Need-returns-13
 unfolding fieldsOf row rows
@@ -118,7 +118,7 @@ unfolding fieldsOf row rows
 returns-15 c = let s = c .before .before .args .payload .now in at-type s (c .match .keys15) (raw-fields P.Tx s)
 
 returns-16 : tie.Need-returns-16
-returns-16 c = at-type _ (c .before .match .keys16) (c .read-reject .ensures)
+returns-16 c = at-type _ (c .before .match .keys16) (c .read-reject-fields .ensures)
 
 returns-17 : tie.Need-returns-17
 unfolding fieldsOf row rows
@@ -141,24 +141,24 @@ unfolding fieldsOf row rows
 returns-21 c = let s = c .before .before .args .payload .now in at-type s (c .match .keys21) (raw-fields P.MerkleBlock s)
 
 returns-22 : tie.Need-returns-22
-returns-22 c = at-type _ (c .before .match .keys22) (c .read-feefilter .ensures)
+returns-22 c = at-type _ (c .before .match .keys22) (c .read-feefilter-fields .ensures)
 
 returns-23 : tie.Need-returns-23
-returns-23 c = at-type _ (c .before .match .keys23) (c .read-sendcmpct .ensures)
+returns-23 c = at-type _ (c .before .match .keys23) (c .read-sendcmpct-fields .ensures)
 
 returns-24 : tie.Need-returns-24
 unfolding fieldsOf row rows
 returns-24 c = let s = c .before .before .args .payload .now in at-type s (c .match .keys24) (raw-fields P.CmpctBlock s)
 
 returns-25 : tie.Need-returns-25
-returns-25 c = at-type _ (c .before .match .keys25) (c .read-getblocktxn .ensures)
+returns-25 c = at-type _ (c .before .match .keys25) (c .read-getblocktxn-fields .ensures)
 
 returns-26 : tie.Need-returns-26
 unfolding fieldsOf row rows
 returns-26 c = let s = c .before .before .args .payload .now in at-type s (c .match .keys26) (raw-fields P.BlockTxn s)
 
 returns-27 : tie.Need-returns-27
-returns-27 c = at-type _ (c .before .match .keys27) (c .read-getproof .ensures)
+returns-27 c = at-type _ (c .before .match .keys27) (c .read-getproof-fields .ensures)
 
 returns-28 : tie.Need-returns-28
 unfolding fieldsOf row rows
@@ -179,26 +179,26 @@ pub read-fields-spec : {M : Type 1} → statement M
 read-fields-spec =
     tie.close
     (tie.spec
-    read-version-requires
+    read-version-fields-requires
     close-requires
-    read-ping-requires
-    read-pong-requires
+    read-ping-fields-requires
+    read-pong-fields-requires
     close-requires-2
-    read-addr-requires
-    read-inv-requires
-    read-getdata-requires
-    read-notfound-requires
-    read-getblocks-requires
-    read-getheaders-requires
-    read-headers-requires
+    read-addr-fields-requires
+    read-inv-fields-requires
+    read-getdata-fields-requires
+    read-notfound-fields-requires
+    read-getblocks-fields-requires
+    read-getheaders-fields-requires
+    read-headers-fields-requires
     close-requires-3
-    read-reject-requires
+    read-reject-fields-requires
     close-requires-4
     close-requires-5
-    read-feefilter-requires
-    read-sendcmpct-requires
-    read-getblocktxn-requires
-    read-getproof-requires
+    read-feefilter-fields-requires
+    read-sendcmpct-fields-requires
+    read-getblocktxn-fields-requires
+    read-getproof-fields-requires
     returns
     returns-2
     returns-3

@@ -1,5 +1,5 @@
 use mathlib.Core.Path.{ap}
-use Rattle.hns_p2p_plans.specs.declared.Checked.the-variants as C
+use Rattle.hns_refusals.specs.declared.Checked.the-variants as C
 use Rattle.hns_p2p_plans.specs.Tests.{hashTest}
 use borrow.Author.Needs.{needs}
 use Rattle.hns_p2p_plans.proofs.check_hash.Statement.{statement}

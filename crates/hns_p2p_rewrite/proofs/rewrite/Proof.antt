@@ -6,8 +6,9 @@ use Rattle.hns_p2p_writer.specs.Writers.{givesFeeFilter}
 use Rattle.hns_p2p_types.specs.declared.Packet.{Packet}
 use Rattle.hns_encoding.specs.Bytes.{Bytes}
 use Rattle.hns_encoding.proofs.Numbers.{bytes-known}
-use Rattle.hns_p2p_wire.specs.Demand3.{rewriting}
+use Rattle.hns_p2p_wire.specs.Demand3.{rewritingUnder}
 use Rattle.hns_p2p_rewrite.proofs.As.{As, as-read, others-raw}
+use Rattle.hns_p2p_rights.specs.Terms.{termsOf}
 use borrow.Author.Needs.{needs}
 use Rattle.hns_p2p_rewrite.proofs.rewrite.Statement.{statement}
 use Rattle.hns_p2p_rewrite.proofs.rewrite.Tie as tie
@@ -57,18 +58,18 @@ write-empty-requires-2 c κs = search needs
 enum-known-i : tie.Need-enum-known-i
 enum-known-i c = search needs
 
-bytes : (c : tie.After-shared-slice-known) → Bytes (c .before .args .payload .now)
-bytes c = bytes-known _ (λ i. c .shared-slice-known .given i .fits)
+bytes : (c : tie.After-shared-slice-known2) → Bytes (c .before .before .args .payload .now)
+bytes c = bytes-known _ (λ i. c .shared-slice-known2 .given i .fits)
 
 -- what was read, and what its writer gives
-known : (c : tie.After-read-packet) → (let z = c .before .before .before .before .args in As (c .read-packet .result) (z .payload .now) (c .read-packet .last .1 .1 .0) (z .out .now) (rewriting (z .packet-type) (z .payload .now) (z .out .now)))
+known : (c : tie.After-read-packet) → (let z = c .before .before .before .before .before .args in As (c .read-packet .result) (z .payload .now) (c .read-packet .last .1 .1 .1 .0) (z .out .now) (rewritingUnder (termsOf (z .terms .now)) (z .packet-type) (z .payload .now) (z .out .now)))
 known c =
     let known-bytes = c .before .before .before in
-    let z = known-bytes .before .args in
-    as-read (z .packet-type) (z .payload .now) (bytes known-bytes) _ refl (z .out .now) (c .read-packet .ensures .0) (c .read-packet .ensures .1)
+    let z = known-bytes .before .before .args in
+    as-read (termsOf (z .terms .now)) (z .packet-type) (z .payload .now) (bytes known-bytes) _ refl (z .out .now) (c .read-packet .ensures .0) (c .read-packet .ensures .1)
 
 -- as the packet of an arm
-at-arm : (c : tie.After-read-packet) {p : Packet} → c .read-packet .result ≡ p → (let z = c .before .before .before .before .args in As p (z .payload .now) (c .read-packet .last .1 .1 .0) (z .out .now) (rewriting (z .packet-type) (z .payload .now) (z .out .now)))
+at-arm : (c : tie.After-read-packet) {p : Packet} → c .read-packet .result ≡ p → (let z = c .before .before .before .before .before .args in As p (z .payload .now) (c .read-packet .last .1 .1 .1 .0) (z .out .now) (rewritingUnder (termsOf (z .terms .now)) (z .packet-type) (z .payload .now) (z .out .now)))
 at-arm c e = rw e at (known c)
 
 rewrite-addr-requires : tie.Need-rewrite-addr-requires
@@ -276,7 +277,7 @@ returns-18 c =
     let read = c .before .before .before .before .before .before .before .before in
     let arm = c .before .before .before .before .before in
     let fits = toZ-ofZ w64 (arm .rate .given .0 .0) (record { sfits = c .before .before .before .before .known-told13 .given .0 .1 }) in
-    c .before .before .write-feefilter .ensures ∙ (ap (λ (r : ℤ). givesFeeFilter r (read .before .before .before .before .args .out .now)) fits ∙ at-arm read (arm .rate .given .1))
+    c .before .before .write-feefilter .ensures ∙ (ap (λ (r : ℤ). givesFeeFilter r (read .before .before .before .before .before .args .out .now)) fits ∙ at-arm read (arm .rate .given .1))
 
 same-length-18 : tie.Need-same-length-18
 same-length-18 c = search needs
@@ -302,8 +303,8 @@ same-length-21 c = search needs
 returns-22 : tie.Need-returns-22
 returns-22 c =
     let read = c .before .before .before .before .before .before in
-    let z = read .before .before .before .before .args in
-    c .before .before .write-raw .ensures ∙ others-raw (read .read-packet .result) (c .before .before .before .before .match .keys22) (z .payload .now) (read .read-packet .last .1 .1 .0) (z .out .now) (rewriting (z .packet-type) (z .payload .now) (z .out .now)) (known read)
+    let z = read .before .before .before .before .before .args in
+    c .before .before .write-raw .ensures ∙ others-raw (read .read-packet .result) (c .before .before .before .before .match .keys22) (z .payload .now) (read .read-packet .last .1 .1 .1 .0) (z .out .now) (rewritingUnder (termsOf (z .terms .now)) (z .packet-type) (z .payload .now) (z .out .now)) (known read)
 
 pub rewrite-spec : {M : Type 1} → statement M
 rewrite-spec =

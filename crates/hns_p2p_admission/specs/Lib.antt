@@ -1,0 +1,3 @@
+pub mod Admission
+pub mod Reading
+pub mod Claims

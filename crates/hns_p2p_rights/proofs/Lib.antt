@@ -1,0 +1,4 @@
+pub mod Masks
+pub mod Conditions
+pub mod Lent
+pub mod Answers
