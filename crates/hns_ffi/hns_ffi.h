@@ -5,7 +5,7 @@
  *
  *   hns_ffi          reads, puts, headers
  *   hns_ffi_frames   frames and the stream
- *   hns_ffi_packets  packets: reading, items, finder, length card, rewriting
+ *   hns_ffi_packets  packets: reading, items, finder, length card, rewriting; rights by role
  *   hns_ffi_writers  packets: a writer for each
  *
  * What the caller must see to, since no proof reaches beyond the call:
@@ -40,6 +40,8 @@
  *   push with tally  0 or refusal, frames, length of their encodings, held count, a, b
  *                    (no c, which is 0 in every refusal of a push)
  *   rewrite, writers 0, length of the payload
+ *   may send         0
+ *   types granted    0, how many
  *
  * Rows of sixteen, about packets. A place counts from the payload's first byte:
  *
@@ -71,9 +73,9 @@
  * (a missing); 9 index over 65,535; 10 text over 127 (c field); 11 hash against the type; 12 too many
  * indexes (a, b limit); 13 index to write over 65,535 (a place); 14 index not above the one before it
  * (a place); 15 header length (a); 16 output too short (a needed); 17 store too short (a needed);
- * 18 held count over the store (a held); 19 no item at the place; 20 tally full. Fields: 1 address,
- * 2 inventory, 3 locator, 4 header, 5 index count, 6 index, 7 agent, 8 reason; 0 where the caller gave
- * the limit.
+ * 18 held count over the store (a held); 19 no item at the place; 20 tally full; 21 role over 7; 22 type
+ * not granted. Fields: 1 address, 2 inventory, 3 locator, 4 header, 5 index count, 6 index, 7 agent,
+ * 8 reason; 0 where the caller gave the limit.
  *
  * Networks: 0 mainnet, 1 testnet, 2 regtest, 3 simnet. A greater number is taken as simnet, not refused.
  */
@@ -176,32 +178,62 @@ void hns_push_tallying(uint8_t network, uint8_t *store, size_t store_len, size_t
                        const uint8_t *input, size_t input_len, uint8_t *output, size_t output_len,
                        uint64_t *tally, size_t tally_len, uint64_t *answer, size_t answer_len);
 
+/* Terms: what a payload is read under, lent in front of every call that reads one as a packet.
+ *
+ * No numbers at all (a pointer that is not null, and a count of 0) name no terms: every type may be sent,
+ * and no call answers 21 or 22. Else number HNS_TERMS_ROLE is the role of the peer who sent the payload,
+ * and from HNS_TERMS_MASKS on stand the masks of roles 0 to 7. Of a mask bits 0 to 29 grant the known types
+ * and bit HNS_OTHER_TYPES every other type byte; bits from 31 on are ignored. Fewer than HNS_TERMS_SIZE
+ * numbers, but at least one, grant nothing. Numbers from HNS_TERMS_SIZE on are not looked at yet: lend none.
+ * Whoever keeps roles lends all numbers at every call: a count of 0 by mistake grants every type.
+ *
+ * 21 is the answer if the role is over 7, then 22 if the role's mask does not grant the type (for
+ * hns_indexes type 24). Both come before 5, and so before any other refusal, whatever the payload is; they
+ * have no values. */
+#define HNS_TERMS_SIZE 9
+#define HNS_TERMS_ROLE 0
+#define HNS_TERMS_MASKS 1
+#define HNS_OTHER_TYPES 30
+
+/* Whether the role may send a frame of a type, to be asked before its payload is read: 0, 21 or 22. Lend
+ * room for the answer: if there is none, nothing is stored, and a 0 that stood there would read as one. */
+void hns_may_send(const uint64_t *terms, size_t terms_len, uint8_t packet_type,
+                  uint64_t *answer, size_t answer_len);
+/* How many types the role may send, at most 31: every type byte from 30 on counts as one type together.
+ * Refused by 21 alone. */
+void hns_types_granted(const uint64_t *terms, size_t terms_len, uint64_t *answer, size_t answer_len);
+
 /* Packets. An agent or a reason goes to the front of `text`, each byte without its top bit; 255 bytes
  * are always enough. */
-void hns_read_packet(uint8_t packet_type, const uint8_t *payload, size_t payload_len,
-                     uint8_t *text, size_t text_len, uint64_t *answer, size_t answer_len);
+void hns_read_packet(const uint64_t *terms, size_t terms_len, uint8_t packet_type,
+                     const uint8_t *payload, size_t payload_len, uint8_t *text, size_t text_len,
+                     uint64_t *answer, size_t answer_len);
 /* The item at a place of a list, from 0 on. */
-void hns_item(uint8_t packet_type, const uint8_t *payload, size_t payload_len, size_t place,
+void hns_item(const uint64_t *terms, size_t terms_len, uint8_t packet_type,
+              const uint8_t *payload, size_t payload_len, size_t place,
               uint64_t *answer, size_t answer_len);
 /* All indexes of a getblocktxn payload. The payload's own refusal comes first, then 16, which counts the
  * numbers that `out` must have; 16,662 are always enough. */
-void hns_indexes(const uint8_t *payload, size_t payload_len, uint64_t *out, size_t out_len,
-                 uint64_t *answer, size_t answer_len);
+void hns_indexes(const uint64_t *terms, size_t terms_len, const uint8_t *payload, size_t payload_len,
+                 uint64_t *out, size_t out_len, uint64_t *answer, size_t answer_len);
 /* The numbers of all addresses or inventory items side by side, as in the rows of hns_item: six numbers
  * or two for each, and none for other types. Refused as hns_indexes is; 6,000 numbers are always enough
  * for addresses, 100,000 for inventory items. A call for each item costs more than the item, so this is
  * for whole lists. */
-void hns_item_numbers(uint8_t packet_type, const uint8_t *payload, size_t payload_len,
-                      uint64_t *out, size_t out_len, uint64_t *answer, size_t answer_len);
+void hns_item_numbers(const uint64_t *terms, size_t terms_len, uint8_t packet_type,
+                      const uint8_t *payload, size_t payload_len, uint64_t *out, size_t out_len,
+                      uint64_t *answer, size_t answer_len);
 /* A place where a hash of 32 bytes stands among the inventory items. A hash of fewer bytes is taken as
  * zeros. */
-void hns_find(uint8_t packet_type, const uint8_t *payload, size_t payload_len,
-              const uint8_t *hash, size_t hash_len, uint64_t *answer, size_t answer_len);
+void hns_find(const uint64_t *terms, size_t terms_len, uint8_t packet_type,
+              const uint8_t *payload, size_t payload_len, const uint8_t *hash, size_t hash_len,
+              uint64_t *answer, size_t answer_len);
 /* The least and the greatest length of the payloads that read as a type. */
 void hns_length_card(uint8_t packet_type, uint64_t *answer, size_t answer_len);
 /* A payload read as a packet and written again by the writer of its type. */
-void hns_rewrite(uint8_t packet_type, const uint8_t *payload, size_t payload_len,
-                 uint8_t *out, size_t out_len, uint64_t *answer, size_t answer_len);
+void hns_rewrite(const uint64_t *terms, size_t terms_len, uint8_t packet_type,
+                 const uint8_t *payload, size_t payload_len, uint8_t *out, size_t out_len,
+                 uint64_t *answer, size_t answer_len);
 
 /* Writers, each for the packet of its name or for those that are said: a payload to the front of `out`.
  * Addresses are items of 67 bytes (time 8, services 8, ip 16, port 2, key 33), inventory items of 36

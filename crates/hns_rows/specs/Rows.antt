@@ -3,6 +3,8 @@ use Prim.Native.Nat.{ℕ}
 use mathlib.Core.List.{List, [], _∷_}
 use lib.Dec.{eqb}
 use Rattle.hns_refusals.specs.declared.Refusal.{Refusal}
+use Rattle.hns_refusals.specs.declared.Checked.{Checked}
+use Rattle.hns_refusals.specs.declared.Checked.the-variants as C
 use Rattle.hns_encoding.specs.declared.Number.{Number}
 use Rattle.hns_encoding.specs.declared.Number.the-variants as N
 use Rattle.hns_encoding.specs.declared.Sizes.{Sizes}
@@ -27,6 +29,8 @@ use Rattle.hns_p2p_frame.specs.declared.Pushed.{Pushed}
 use Rattle.hns_p2p_frame.specs.declared.Pushed.the-variants as U
 use Rattle.hns_p2p_frame.specs.declared.Delivered.{Delivered}
 use Rattle.hns_p2p_frame.specs.declared.Delivered.the-variants as D
+use Rattle.hns_p2p_rights.specs.declared.Granted.{Granted}
+use Rattle.hns_p2p_rights.specs.declared.Granted.the-variants as G
 
 -- a row at the front of the caller's numbers; what does not fit is dropped
 unfoldable pub answered : List ℕ → List ℕ → List ℕ
@@ -92,3 +96,13 @@ pushedRow (U.Refused r held) = refusedRow r held
 unfoldable pub deliveredRow : Delivered → List ℕ
 deliveredRow (D.Accepted frames bytes held) = row frames bytes held 0 0
 deliveredRow (D.Refused r frames bytes held) = r .number ∷ frames ∷ bytes ∷ held ∷ r .a ∷ r .b ∷ []
+
+-- whether a frame may be sent
+unfoldable pub checkedRow : Checked → List ℕ
+checkedRow C.Passed = row 0 0 0 0 0
+checkedRow (C.Refused r) = refusedRow r 0
+
+-- how many types may be sent
+unfoldable pub grantedRow : Granted → List ℕ
+grantedRow (G.Types n) = row n 0 0 0 0
+grantedRow (G.Refused r) = refusedRow r 0

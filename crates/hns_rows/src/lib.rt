@@ -11,12 +11,14 @@ use hns_p2p_frame::Exact;
 use hns_p2p_frame::NetworkMagic;
 use hns_p2p_frame::Prefix;
 use hns_p2p_frame::Pushed;
+use hns_p2p_rights::Granted;
+use hns_refusals::Checked;
 use hns_refusals::Refusal;
 ghost use mathlib.Core.Path.{_≡_};
 ghost use Prim.Native.Nat.{_≤_};
 ghost use lib.ListN.{length};
 ghost use lib.Seq.{paste};
-ghost use Rattle.hns_rows.specs.Rows.{answered, networkOf, refusedRow, numberRow, sizesRow, sliceRow, finishedRow, headerRow, prefixRow, exactRow, encodedRow, pushedRow, deliveredRow};
+ghost use Rattle.hns_rows.specs.Rows.{answered, networkOf, refusedRow, numberRow, sizesRow, sliceRow, finishedRow, headerRow, prefixRow, exactRow, encodedRow, pushedRow, deliveredRow, checkedRow, grantedRow};
 
 fn copy(answer: &mut [u64], values: [u64; 6], n: usize)
     requires { ⌜ (n ≤ 6) × (n ≤ length (now answer)) ⌝ }
@@ -173,6 +175,24 @@ pub fn of_delivered(delivered: Delivered) -> [u64; 6]
             refusal.a,
             refusal.b,
         ],
+    }
+}
+
+pub fn of_checked(checked: Checked) -> [u64; 6]
+    ensures { λ r. ⌜ r ≡ checkedRow checked ⌝ }
+{
+    match checked {
+        Checked::Passed => [0; 6],
+        Checked::Refused(refusal) => of_refusal(refusal, 0),
+    }
+}
+
+pub fn of_granted(granted: Granted) -> [u64; 6]
+    ensures { λ r. ⌜ r ≡ grantedRow granted ⌝ }
+{
+    match granted {
+        Granted::Types(count) => [0, count as u64, 0, 0, 0, 0],
+        Granted::Refused(refusal) => of_refusal(refusal, 0),
     }
 }
 

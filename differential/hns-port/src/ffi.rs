@@ -190,6 +190,8 @@ unsafe extern "C" {
         answer_len: usize,
     );
     pub fn hns_read_packet(
+        terms: *const u64,
+        terms_len: usize,
         packet_type: u8,
         payload: *const u8,
         payload_len: usize,
@@ -199,6 +201,8 @@ unsafe extern "C" {
         answer_len: usize,
     );
     pub fn hns_item(
+        terms: *const u64,
+        terms_len: usize,
         packet_type: u8,
         payload: *const u8,
         payload_len: usize,
@@ -207,6 +211,8 @@ unsafe extern "C" {
         answer_len: usize,
     );
     pub fn hns_indexes(
+        terms: *const u64,
+        terms_len: usize,
         payload: *const u8,
         payload_len: usize,
         out: *mut u64,
@@ -215,6 +221,8 @@ unsafe extern "C" {
         answer_len: usize,
     );
     pub fn hns_item_numbers(
+        terms: *const u64,
+        terms_len: usize,
         packet_type: u8,
         payload: *const u8,
         payload_len: usize,
@@ -224,6 +232,8 @@ unsafe extern "C" {
         answer_len: usize,
     );
     pub fn hns_find(
+        terms: *const u64,
+        terms_len: usize,
         packet_type: u8,
         payload: *const u8,
         payload_len: usize,
@@ -234,11 +244,26 @@ unsafe extern "C" {
     );
     pub fn hns_length_card(packet_type: u8, answer: *mut u64, answer_len: usize);
     pub fn hns_rewrite(
+        terms: *const u64,
+        terms_len: usize,
         packet_type: u8,
         payload: *const u8,
         payload_len: usize,
         out: *mut u8,
         out_len: usize,
+        answer: *mut u64,
+        answer_len: usize,
+    );
+    pub fn hns_may_send(
+        terms: *const u64,
+        terms_len: usize,
+        packet_type: u8,
+        answer: *mut u64,
+        answer_len: usize,
+    );
+    pub fn hns_types_granted(
+        terms: *const u64,
+        terms_len: usize,
         answer: *mut u64,
         answer_len: usize,
     );

@@ -31,6 +31,7 @@ pub use crate::header::{EXTRA_NONCE_SIZE, HASHES_SIZE, HEADER_SIZE, Header};
 pub use crate::packet::{
     PacketRow, find, indexes, item, item_numbers, length_card, read_packet, rewrite,
 };
+pub use crate::terms::Terms;
 pub use crate::types::NetworkMagic;
 pub use crate::writers::{
     AddressFields, VersionFields, write_addr, write_empty, write_feefilter, write_getblocktxn,

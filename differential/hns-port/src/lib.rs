@@ -19,6 +19,8 @@
 //! - [`BlockHash`] and the other values of `hns_primitives` are here, since no other crate is needed;
 //! - blocks, transactions, compact blocks and proofs are the bytes that they were sent as.
 //!
+//! [`Terms`] say which types the role of a peer may send; [`Packet::decode`] and
+//! [`Frame::decode_packet`] name no role.
 //! [`lent`] has the calls without allocations.
 //!
 //! # Linking
@@ -49,6 +51,7 @@ mod packet;
 mod primitives;
 mod refusal;
 mod tally;
+mod terms;
 mod types;
 mod writers;
 
@@ -58,6 +61,7 @@ pub use owned_packet::Packet;
 pub use primitives::*;
 pub use refusal::{DecodeError, HeaderError, Refusal, WireError};
 pub use tally::{TALLY_SIZE, Tally};
+pub use terms::Terms;
 pub use types::*;
 
 #[cfg(doctest)]

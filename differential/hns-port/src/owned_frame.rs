@@ -3,7 +3,7 @@
 use crate::owned_packet::written;
 use crate::{
     FRAME_HEADER_SIZE, MAX_FRAME_PAYLOAD_SIZE, NetworkMagic, Packet, PacketType, Refusal, Tally,
-    lent, write_raw,
+    Terms, lent, write_raw,
 };
 
 /// A frame.
@@ -45,9 +45,14 @@ impl Frame {
         Self::new(packet.packet_type(), packet.encode_payload()?)
     }
 
-    /// Reads the payload as a packet of the frame's type.
+    /// Reads the payload as a packet of the frame's type. No role is named, so that every type may be sent.
     pub fn decode_packet(&self) -> Result<Packet, Refusal> {
-        Packet::decode(self.packet_type, &self.payload)
+        self.decode_packet_under(&Terms::full())
+    }
+
+    /// The same under terms: 21 and 22 come before all other refusals.
+    pub fn decode_packet_under(&self, terms: &Terms) -> Result<Packet, Refusal> {
+        Packet::decode_under(terms, self.packet_type, &self.payload)
     }
 
     /// Writes the frame.

@@ -10,7 +10,7 @@ use crate::{
     BlockHash, CompactBlockRequest, Encoder, GetProofPacket, HEADER_SIZE, Header, Inventory,
     InventoryKind, LocatorPacket, MAX_FRAME_PAYLOAD_SIZE, MAX_REJECT_REASON_SIZE,
     MAX_USER_AGENT_SIZE, NET_ADDRESS_SIZE, NameHash, NetAddress, PacketRow, PacketType, Refusal,
-    RejectPacket, TreeRoot, VersionPacket, write_addr, write_empty, write_feefilter,
+    RejectPacket, Terms, TreeRoot, VersionPacket, write_addr, write_empty, write_feefilter,
     write_getblocktxn, write_getproof, write_headers, write_inventory, write_locator, write_nonce,
     write_raw, write_reject, write_sendcmpct, write_version,
 };
@@ -144,28 +144,37 @@ impl Packet {
         }
     }
 
-    /// Reads a payload as a packet of a type.
+    /// Reads a payload as a packet of a type. No role is named, so that every type may be sent.
     pub fn decode(packet_type: PacketType, payload: &[u8]) -> Result<Self, Refusal> {
-        let read = |make: fn(Answer<'_>) -> Self| read(packet_type, payload, make);
+        Self::decode_under(&Terms::full(), packet_type, payload)
+    }
+
+    /// Reads a payload as a packet of a type under terms: 21 and 22 come before all other refusals.
+    pub fn decode_under(
+        terms: &Terms,
+        packet_type: PacketType,
+        payload: &[u8],
+    ) -> Result<Self, Refusal> {
+        let read = |make: fn(Answer<'_>) -> Self| read(terms, packet_type, payload, make);
         match packet_type {
-            PacketType::Version => read_text(packet_type, payload, 12, |answer, agent| {
+            PacketType::Version => read_text(terms, packet_type, payload, 12, |answer, agent| {
                 answer.version(agent)
             }),
             PacketType::Verack => read(|_| Self::Verack),
             PacketType::Ping => read(|answer| Self::Ping(answer.nonce())),
             PacketType::Pong => read(|answer| Self::Pong(answer.nonce())),
             PacketType::GetAddr => read(|_| Self::GetAddr),
-            PacketType::Addr => addresses(payload).map(Self::Addr),
+            PacketType::Addr => addresses(terms, payload).map(Self::Addr),
             PacketType::Inv => read(|answer| Self::Inv(answer.inventory())),
             PacketType::GetData => read(|answer| Self::GetData(answer.inventory())),
             PacketType::NotFound => read(|answer| Self::NotFound(answer.inventory())),
             PacketType::GetBlocks => read(|answer| Self::GetBlocks(answer.locator())),
             PacketType::GetHeaders => read(|answer| Self::GetHeaders(answer.locator())),
-            PacketType::Headers => headers(payload).map(Self::Headers),
+            PacketType::Headers => headers(terms, payload).map(Self::Headers),
             PacketType::SendHeaders => read(|_| Self::SendHeaders),
             PacketType::Block => read(|answer| Self::Block(answer.raw())),
             PacketType::Tx => read(|answer| Self::Tx(answer.raw())),
-            PacketType::Reject => read_text(packet_type, payload, 4, |answer, reason| {
+            PacketType::Reject => read_text(terms, packet_type, payload, 4, |answer, reason| {
                 answer.reject(reason)
             }),
             PacketType::Mempool => read(|_| Self::Mempool),
@@ -176,13 +185,13 @@ impl Packet {
             PacketType::FeeFilter => read(|answer| Self::FeeFilter(answer.row[1] as i64)),
             PacketType::SendCmpct => read(|answer| answer.sendcmpct()),
             PacketType::CmpctBlock => read(|answer| Self::CmpctBlock(answer.raw())),
-            PacketType::GetBlockTxn => request(payload).map(Self::GetBlockTxn),
+            PacketType::GetBlockTxn => request(terms, payload).map(Self::GetBlockTxn),
             PacketType::BlockTxn => read(|answer| Self::BlockTxn(answer.raw())),
             PacketType::GetProof => read(|answer| Self::GetProof(answer.getproof())),
             PacketType::Proof => read(|answer| Self::Proof(answer.raw())),
             PacketType::Claim => read(|answer| Self::Claim(answer.raw())),
             PacketType::Airdrop => read(|answer| Self::Airdrop(answer.raw())),
-            PacketType::Unknown(number) => unknown(number, payload),
+            PacketType::Unknown(number) => unknown(terms, number, payload),
         }
     }
 
@@ -233,18 +242,26 @@ impl Packet {
 /// What is made of the answer to a reading. Inlined, so that a packet is built where it is returned.
 #[inline(always)]
 fn read<T>(
+    terms: &Terms,
     packet_type: PacketType,
     payload: &[u8],
     make: impl FnOnce(Answer<'_>) -> T,
 ) -> Result<T, Refusal> {
     let mut row = MaybeUninit::uninit();
-    let row = read_row(packet_type.as_u8(), payload, &mut [0_u8; 0], &mut row)?;
+    let row = read_row(
+        terms,
+        packet_type.as_u8(),
+        payload,
+        &mut [0_u8; 0],
+        &mut row,
+    )?;
     Ok(make(Answer { payload, row }))
 }
 
 /// The same with the packet's text, whose length is one of the row's numbers.
 #[inline(always)]
 fn read_text(
+    terms: &Terms,
     packet_type: PacketType,
     payload: &[u8],
     length: usize,
@@ -254,7 +271,7 @@ fn read_text(
     // The text is a part of the payload.
     let mut text = Vec::with_capacity(payload.len().min(MAX_USER_AGENT_SIZE));
     let to = text.spare_capacity_mut();
-    let row = read_row(packet_type.as_u8(), payload, to, &mut row)?;
+    let row = read_row(terms, packet_type.as_u8(), payload, to, &mut row)?;
     // SAFETY: an accepted call has stored every byte of the text whose length it answers, each below 128.
     let text = unsafe {
         text.set_len(row[length] as usize);
@@ -263,13 +280,13 @@ fn read_text(
     Ok(make(Answer { payload, row }, text))
 }
 
-fn addresses(payload: &[u8]) -> Result<Vec<NetAddress>, Refusal> {
-    let count = read(PacketType::Addr, payload, |answer| answer.at(1))?;
-    NetAddress::list(payload, count)
+fn addresses(terms: &Terms, payload: &[u8]) -> Result<Vec<NetAddress>, Refusal> {
+    let count = read(terms, PacketType::Addr, payload, |answer| answer.at(1))?;
+    NetAddress::list(terms, payload, count)
 }
 
-fn headers(payload: &[u8]) -> Result<Vec<Header>, Refusal> {
-    let (count, first) = read(PacketType::Headers, payload, |answer| {
+fn headers(terms: &Terms, payload: &[u8]) -> Result<Vec<Header>, Refusal> {
+    let (count, first) = read(terms, PacketType::Headers, payload, |answer| {
         (answer.at(1), answer.at(2))
     })?;
     // A list of results would not know how long it will be, and grow.
@@ -281,8 +298,8 @@ fn headers(payload: &[u8]) -> Result<Vec<Header>, Refusal> {
 }
 
 /// A getblocktxn by its indexes: these read where the payload does, which begins with its hash.
-fn request(payload: &[u8]) -> Result<CompactBlockRequest, Refusal> {
-    let indexes = all_indexes(payload)?;
+fn request(terms: &Terms, payload: &[u8]) -> Result<CompactBlockRequest, Refusal> {
+    let indexes = all_indexes(terms, payload)?;
     Ok(CompactBlockRequest {
         block_hash: BlockHash::new(array(payload, 0)),
         indexes,
@@ -290,11 +307,11 @@ fn request(payload: &[u8]) -> Result<CompactBlockRequest, Refusal> {
 }
 
 /// The number decides, also where it is that of a type with a name.
-fn unknown(packet_type: u8, payload: &[u8]) -> Result<Packet, Refusal> {
+fn unknown(terms: &Terms, packet_type: u8, payload: &[u8]) -> Result<Packet, Refusal> {
     if let 0..30 = packet_type {
-        return Packet::decode(PacketType::from_u8(packet_type), payload);
+        return Packet::decode_under(terms, PacketType::from_u8(packet_type), payload);
     }
-    read(PacketType::Unknown(packet_type), payload, |answer| {
+    read(terms, PacketType::Unknown(packet_type), payload, |answer| {
         Packet::Unknown {
             packet_type,
             payload: answer.raw(),

@@ -66,6 +66,8 @@ impl fmt::Display for Refusal {
             18 => write!(f, "held count {a} over the store"),
             19 => write!(f, "no item at the place"),
             20 => write!(f, "tally full"),
+            21 => write!(f, "role over 7"),
+            22 => write!(f, "type not granted to the role"),
             _ => write!(f, "values {a}, {b}"),
         }
     }

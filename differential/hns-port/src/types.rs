@@ -2,7 +2,7 @@
 
 use std::net::{Ipv4Addr, Ipv6Addr, SocketAddr};
 
-use crate::{BlockHash, Decoder, NameHash, Refusal, TreeRoot, item_numbers, write_addr};
+use crate::{BlockHash, Decoder, NameHash, Refusal, Terms, TreeRoot, item_numbers, write_addr};
 
 /// The version of the protocol that a node of today announces.
 pub const PROTOCOL_VERSION: u32 = 3;
@@ -209,13 +209,18 @@ impl NetAddress {
         decoder.finish()?;
         let mut payload = [1; 1 + NET_ADDRESS_SIZE];
         payload[1..].copy_from_slice(bytes);
-        Ok(Self::list(&payload, 1)?[0])
+        Ok(Self::list(&Terms::full(), &payload, 1)?[0])
     }
 
     /// The addresses of an addr payload, which are so many.
-    pub(crate) fn list(payload: &[u8], count: usize) -> Result<Vec<Self>, Refusal> {
+    pub(crate) fn list(terms: &Terms, payload: &[u8], count: usize) -> Result<Vec<Self>, Refusal> {
         let mut items = vec![[0; 6]; count];
-        item_numbers(PacketType::Addr.as_u8(), payload, items.as_flattened_mut())?;
+        item_numbers(
+            terms,
+            PacketType::Addr.as_u8(),
+            payload,
+            items.as_flattened_mut(),
+        )?;
         let address = |[time, services, first, last, port, key]: [u64; 6]| Self {
             time,
             services,
