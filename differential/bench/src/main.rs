@@ -6,7 +6,8 @@
 //! in the same chunks take turns. The port's store and output are lent once, are 16,000,018 bytes
 //! each and are not cleared between runs. The Rust keeps one decoder, so its buffer has grown in
 //! a first run that is not counted; the frames that it delivers are dropped after each push.
-//! Pushes with a tally have the push without in the place of the copy.
+//! Pushes with a tally have the push without in the place of the copy, and packets that are read under the
+//! terms of a role have the same under none.
 //!
 //! With several tables (1), each number is the median over them, and for a ratio the least and the
 //! greatest follow.
@@ -49,9 +50,9 @@ fn main() -> ExitCode {
         return ExitCode::from(2);
     };
     let (inputs, buffers) = (Inputs::new(), Buffers::new());
-    let (samples, alike) = (packets::samples(), packets::alike());
+    let (samples, alike, sent) = (packets::samples(), packets::alike(), packets::sent());
     let taken: Vec<Table> = (0..tables)
-        .map(|_| table(runs, &inputs, &buffers, &samples, &alike))
+        .map(|_| table(runs, &inputs, &buffers, &samples, &alike, &sent))
         .collect();
     println!("{}", machine());
     println!("medians of {runs} runs, in {tables} tables; ratios of time, below 1 is faster");
@@ -79,6 +80,7 @@ fn table(
     buffers: &Buffers,
     samples: &[Sample],
     alike: &Sample,
+    sent: &[Sample],
 ) -> Table {
     let rows = |names: &[&'static str]| -> Vec<Row<'_>> {
         let row = |name: &&'static str| rows::row(name, inputs, buffers);
@@ -101,6 +103,12 @@ fn table(
                 .collect(),
         ),
         ("packets", packets),
+        (
+            "packets read under the terms of a role; instead of the copy, under no terms",
+            sent.iter()
+                .map(|sample| packets::read_as(sample, buffers))
+                .collect(),
+        ),
         (
             "packets with values of their own",
             packets::owned(samples, buffers),

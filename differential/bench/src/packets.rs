@@ -47,6 +47,9 @@ pub fn alike() -> Sample {
     sample(("inv of 50,000", Packet::Inv(items.collect())))
 }
 
+/// What the port reads under if no role is named.
+const NO_TERMS: port::Terms = port::Terms::full();
+
 /// A hash that no sample has.
 const NOWHERE: [u8; 32] = [9; 32];
 
@@ -233,7 +236,12 @@ impl Sample {
     }
 
     fn read_port(&self, text: &mut [u8]) -> port::PacketRow {
-        port::read_packet(self.packet_type(), black_box(&self.payload), text).expect("a good one")
+        self.read_under(&NO_TERMS, text)
+    }
+
+    fn read_under(&self, terms: &port::Terms, text: &mut [u8]) -> port::PacketRow {
+        let payload = black_box(&self.payload);
+        port::read_packet(terms, self.packet_type(), payload, text).expect("a good one")
     }
 
     fn read_rust(&self) -> Packet {
@@ -251,6 +259,40 @@ fn read<'a>(sample: &'a Sample, buffers: &'a Buffers) -> Row<'a> {
     sample.row("read", buffers, on_port, on_rust)
 }
 
+/// Packets to read under the terms of a role, each often enough to time one call.
+pub fn sent() -> Vec<Sample> {
+    let names = ["version", "ping", "inv of 50,000"];
+    let named = samples()
+        .into_iter()
+        .filter(|sample| names.contains(&sample.name));
+    let often = |sample: Sample| Sample {
+        times: sample.times.max(100),
+        ..sample
+    };
+    named.map(often).collect()
+}
+
+/// Read under the terms of a role, which may send every type; instead of the copy, under no terms.
+pub fn read_as<'a>(sample: &'a Sample, buffers: &'a Buffers) -> Row<'a> {
+    let terms = port::Terms::new(7, [0, 0, 0, 0, 0, 0, 0, port::Terms::EVERY_TYPE]);
+    let (mut text, mut other) = ([0; 255], [0; 255]);
+    let on_port = sample.again(move || {
+        let row = sample.read_under(black_box(&terms), &mut text);
+        (row[1], row[2], row[3])
+    });
+    let no_terms = sample.again(move || {
+        let row = sample.read_port(&mut other);
+        (row[1], row[2], row[3])
+    });
+    let on_rust = sample.again(|| sample.read_rust());
+    Row {
+        // Nanoseconds for one call, whatever its packet lists.
+        items: sample.times,
+        copy: no_terms,
+        ..sample.row("read as a role,", buffers, on_port, on_rust)
+    }
+}
+
 /// Every item, with all that its payload is refused for: numbers of all items in one call, or headers
 /// one by one from their places.
 fn fetch<'a>(sample: &'a Sample, buffers: &'a Buffers) -> Row<'a> {
@@ -258,7 +300,8 @@ fn fetch<'a>(sample: &'a Sample, buffers: &'a Buffers) -> Row<'a> {
     let (packet_type, payload) = (sample.packet_type(), &sample.payload);
     let on_port = sample.again(move || match packet_type {
         24 => {
-            let count = port::indexes(black_box(payload), &mut numbers).expect("a good one");
+            let count =
+                port::indexes(&NO_TERMS, black_box(payload), &mut numbers).expect("a good one");
             numbers[..count].iter().map(black_box).count()
         }
         11 => {
@@ -268,7 +311,8 @@ fn fetch<'a>(sample: &'a Sample, buffers: &'a Buffers) -> Row<'a> {
             decoded.map(black_box).count()
         }
         _ => {
-            let count = port::item_numbers(packet_type, black_box(payload), &mut numbers);
+            let count =
+                port::item_numbers(&NO_TERMS, packet_type, black_box(payload), &mut numbers);
             numbers[..count.expect("a good one")]
                 .iter()
                 .map(black_box)
@@ -285,7 +329,12 @@ fn fetch_each<'a>(sample: &'a Sample, buffers: &'a Buffers) -> Row<'a> {
     let on_port = sample.again(move || {
         let row = sample.read_port(&mut text);
         for place in 0..row[1] as usize {
-            let item = port::item(sample.packet_type(), black_box(&sample.payload), place);
+            let item = port::item(
+                &NO_TERMS,
+                sample.packet_type(),
+                black_box(&sample.payload),
+                place,
+            );
             let item = item.expect("an item");
             black_box((item[1], item[2]));
         }
@@ -417,10 +466,10 @@ fn find<'a>(
 ) -> Row<'a> {
     let items = sample.inventory();
     assert_eq!(
-        port::find(6, &sample.payload, &hash),
+        port::find(&NO_TERMS, 6, &sample.payload, &hash),
         Ok(search(items, &hash))
     );
-    let on_port = sample.again(move || port::find(6, black_box(&sample.payload), &hash));
+    let on_port = sample.again(move || port::find(&NO_TERMS, 6, black_box(&sample.payload), &hash));
     let on_vector = sample.again(move || search(black_box(items), &hash));
     let on_payload = sample.again(move || match sample.read_rust() {
         Packet::Inv(items) => search(&items, &hash),

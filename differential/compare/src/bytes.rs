@@ -75,6 +75,7 @@ const fn bounded(kind: Kind, i: usize, number: u64) -> u64 {
     let free = match kind {
         Kind::CompactUsize | Kind::Slice | Kind::Bounded | Kind::Varbytes => true,
         Kind::Reads | Kind::Stream | Kind::OwnedStream | Kind::Item | Kind::Find => true,
+        Kind::Rights => true,
         Kind::Puts => i > 1,
         Kind::Write | Kind::OwnedFields => i == 1,
         _ => false,

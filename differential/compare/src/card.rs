@@ -5,6 +5,7 @@ use hns_port::Refusal;
 use crate::case::{Case, Verdict};
 use crate::generate::LISTS;
 use crate::packets::{decode, packet_type};
+use crate::rights;
 use crate::rust::compact_size;
 
 /// A length that reads is within the card's.
@@ -23,7 +24,9 @@ pub fn check(case: &Case) -> Verdict {
     let kind = packet_type(case);
     let both = [shortest(kind), longest(kind)];
     let [least, greatest] = both.each_ref().map(|payload| payload.len() as u64);
-    let read = |payload: &Vec<u8>| hns_port::read_packet(kind, payload, &mut [0; 255]).map(drop);
+    let terms = rights::full(case);
+    let read =
+        |payload: &Vec<u8>| hns_port::read_packet(&terms, kind, payload, &mut [0; 255]).map(drop);
     let port: [Result<(), Refusal>; 2] = both.each_ref().map(read);
     let rust = both
         .each_ref()

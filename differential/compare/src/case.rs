@@ -39,10 +39,11 @@ pub enum Kind {
     OwnedStream,
     Card,
     Row,
+    Rights,
 }
 
 impl Kind {
-    pub const ALL: [Self; 31] = [
+    pub const ALL: [Self; 32] = [
         Self::ReadU8,
         Self::ReadU16,
         Self::ReadU32,
@@ -74,7 +75,15 @@ impl Kind {
         Self::OwnedStream,
         Self::Card,
         Self::Row,
+        Self::Rights,
     ];
+
+    /// The parts of all random comparisons that the Rust has a side in.
+    pub fn shares() -> u64 {
+        let compared = |kind: &&Self| **kind != Self::Rights;
+        let kinds = Self::ALL.iter().filter(compared);
+        kinds.map(|kind| kind.share()).sum()
+    }
 
     /// Its part of the random comparisons.
     pub const fn share(self) -> u64 {
@@ -82,6 +91,8 @@ impl Kind {
             // A push counts three times: itself with and without a tally, and two refusals of the tally.
             Self::Stream => 24,
             Self::Rewrite | Self::Packet | Self::Write => 8,
+            // It comes on top: `shares` does not count it.
+            Self::Rights => 2,
             Self::OwnedPacket | Self::OwnedFields | Self::OwnedFrame => 4,
             Self::FramePrefix | Self::FrameExact | Self::Reads | Self::Puts => 2,
             Self::OwnedStream => 4,
@@ -125,6 +136,7 @@ impl Kind {
             Self::OwnedFrame => "owned: Frame of a packet (type, change)",
             Self::OwnedStream => "owned: FrameDecoder::push, tally (chunks)",
             Self::Row => "rows by themselves (type, place)",
+            Self::Rights => "rights by role (type, role, mask)",
         }
     }
 }
@@ -165,10 +177,11 @@ impl Case {
         self.numbers.get(i).copied().unwrap_or(0)
     }
 
-    /// Whether the Rust has no answer of its own: rows, and packets that it parses and the port carries.
+    /// Whether the Rust has no answer of its own: rows, rights, and packets that it parses and the
+    /// port carries.
     pub fn alone(&self) -> bool {
         match self.kind {
-            Kind::Row => true,
+            Kind::Row | Kind::Rights => true,
             Kind::Packet | Kind::Item | Kind::Find | Kind::Rewrite => self.carried(),
             Kind::OwnedPacket | Kind::Card => self.carried(),
             _ => false,

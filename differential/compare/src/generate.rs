@@ -57,6 +57,7 @@ pub fn case(rng: &mut Rng, kind: Kind) -> Case {
         }
         Kind::Packet | Kind::Item | Kind::Find | Kind::Rewrite => packet(rng, kind),
         Kind::OwnedPacket => packet(rng, kind),
+        Kind::Rights => sent(rng),
         Kind::OwnedFrame => packet(rng, kind).on(rng.index(NETWORKS.len())),
     };
     // The network of a case with frames is the one that they were made for, or another.
@@ -411,6 +412,14 @@ fn packet(rng: &mut Rng, kind: Kind) -> Case {
     };
     let numbers = [u64::from(packet_type), second as u64, third];
     Case::new(kind, bytes, &numbers)
+}
+
+/// A payload, and a role and a mask for it.
+fn sent(rng: &mut Rng) -> Case {
+    let mut case = packet(rng, Kind::Rights);
+    case.numbers[1] = rng.next();
+    case.numbers[2] = rng.next() & rng.next();
+    case
 }
 
 /// A payload that most often reads as a packet of the type.

@@ -16,6 +16,7 @@ pub mod packets;
 mod payloads;
 mod puts;
 mod reads;
+mod rights;
 pub mod rng;
 mod rows;
 pub mod rust;
@@ -68,6 +69,7 @@ fn ask(case: &Case) -> Verdict {
         Kind::OwnedStream => owned::stream(case),
         Kind::Card => card::check(case),
         Kind::Row => rows::check(case),
+        Kind::Rights => rights::check(case),
         Kind::ReadU8 | Kind::ReadU16 | Kind::ReadU32 | Kind::ReadU64 => reads::check(case),
         Kind::CompactSize | Kind::CompactUsize => reads::check(case),
         Kind::Slice | Kind::Bounded | Kind::Varbytes | Kind::Finish => reads::check(case),

@@ -78,9 +78,8 @@ fn run_all(options: &Options, run: &mut Run) {
         limits::all(&mut rng, networks, &mut |case| run.case(case));
     }
     run.part("random");
-    let shares: u64 = Kind::ALL.iter().map(|kind| kind.share()).sum();
     for kind in Kind::ALL {
-        let wanted = (options.count * kind.share()).div_ceil(shares);
+        let wanted = (options.count * kind.share()).div_ceil(Kind::shares());
         while run.compared(kind) < wanted && !run.mismatches.contains_key(&kind) {
             run.case(&generate::case(&mut rng, kind));
         }
@@ -151,7 +150,7 @@ impl Run {
         println!("{total} comparisons, {kinds} kinds with a mismatch");
         let refused = |number: usize| rust::REFUSED[number].load(Ordering::Relaxed);
         println!(
-            "{} of them of the port alone: rows, what is carried, and 16 to 20, which the Rust lacks",
+            "{} of them of the port alone: rows, rights, what is carried, and 16 to 22, which the Rust lacks",
             self.alone
         );
         print!("refusals by number, of which a comparison can have several:");

@@ -8,6 +8,7 @@ use hns_p2p_wire::{
 use crate::case::{Case, NETWORKS, Verdict};
 use crate::headers::ported;
 use crate::packets::{CARRIED, decode, packet_error, packet_type};
+use crate::rights;
 use crate::rng::Rng;
 use crate::rust;
 use crate::stream::LENGTH;
@@ -162,6 +163,9 @@ pub fn packet(case: &Case) -> Verdict {
     let port = port::read(number, &case.bytes);
     let rust = decode(number, &case.bytes);
     let answers = Verdict::of(&port, &rust.as_ref().map(owned).map_err(|refusal| *refusal));
+    let kind = hns_port::PacketType::from_u8(number);
+    let under = hns_port::Packet::decode_under(&rights::full(case), kind, &case.bytes);
+    let answers = answers.and_then(|| Verdict::of(&under, &port));
     match &rust {
         Ok(rust) if !answers.differs() => all([encoded(rust), addresses(rust)]),
         _ => answers,

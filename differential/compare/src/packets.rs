@@ -4,12 +4,12 @@ use hns_p2p_wire::{
     Inventory, LocatorPacket, NetAddress, Packet, PacketType, RejectPacket, VersionPacket,
     WireError,
 };
-use hns_port::{PacketRow, Refusal};
+use hns_port::{PacketRow, Refusal, Terms};
 
 use crate::buffer::{filled, splice, written};
 use crate::card;
 use crate::case::{Case, Verdict};
-use crate::{rows, rust};
+use crate::{rights, rows, rust};
 
 /// Types that the port reads as raw bytes, and the Rust as what they carry.
 pub const CARRIED: [u8; 5] = [13, 14, 23, 25, 27];
@@ -68,7 +68,7 @@ pub fn read(case: &Case) -> Verdict {
     let kind = packet_type(case);
     let mut text = filled(case.number(1) as usize);
     let mut expected = text.clone();
-    let row = hns_port::read_packet(kind, &case.bytes, &mut text);
+    let row = hns_port::read_packet(&rights::full(case), kind, &case.bytes, &mut text);
     let port = row.map(|row| port_seen(kind, &case.bytes, &row));
     let rust = decode(kind, &case.bytes).and_then(|packet| {
         let put = rust::fits(words(&packet).into(), expected.len())?;
@@ -241,17 +241,18 @@ pub fn inventory(item: &Inventory) -> Vec<u8> {
 /// The item at a place: its numbers, and the bytes that stand at its places.
 pub fn item(case: &Case) -> Verdict {
     let (kind, place) = (packet_type(case), case.number(1) as usize);
-    let row = hns_port::item(kind, &case.bytes, place);
+    let terms = rights::full(case);
+    let row = hns_port::item(&terms, kind, &case.bytes, place);
     let port = row.map(|row| port_item(kind, &case.bytes, &row));
     let packet = decode(kind, &case.bytes);
     let packet = packet.as_ref().map_err(|refusal| *refusal);
     let rust = packet.and_then(|packet| rust_item(packet, place));
     let short = case.number(2) == 1;
     let all = || match kind {
-        24 => all_indexes(&case.bytes, packet.map(indexes), short),
+        24 => all_indexes(&terms, &case.bytes, packet.map(indexes), short),
         _ => {
             let items = packet.map(|packet| numbered(kind, packet));
-            all_items(kind, &case.bytes, items, short)
+            all_items((&terms, kind), &case.bytes, items, short)
         }
     };
     Verdict::of(&port, &rust)
@@ -267,11 +268,16 @@ fn numbered(kind: u8, packet: &Packet) -> Vec<Seen> {
 
 /// The numbers of all items by one call: of each item so many, the last of which is a place of so many
 /// bytes.
-fn all_items(kind: u8, payload: &[u8], items: Result<Vec<Seen>, Refusal>, short: bool) -> Verdict {
+fn all_items(
+    (terms, kind): (&Terms, u8),
+    payload: &[u8],
+    items: Result<Vec<Seen>, Refusal>,
+    short: bool,
+) -> Verdict {
     let (each, width) = if kind == 5 { (6, 33) } else { (2, 32) };
     let needed = items.as_ref().map_or(0, |items| items.len() * each);
     let room = room(needed, short);
-    let call = |out: &mut [u64]| hns_port::item_numbers(kind, payload, out);
+    let call = |out: &mut [u64]| hns_port::item_numbers(terms, kind, payload, out);
     let (numbers, left_alone) = stored(call, room);
     let seen = |item: &[u64]| {
         let bytes = payload[item[each - 1] as usize..][..width].to_vec();
@@ -283,10 +289,15 @@ fn all_items(kind: u8, payload: &[u8], items: Result<Vec<Seen>, Refusal>, short:
 }
 
 /// All indexes by one call.
-fn all_indexes(payload: &[u8], indexes: Result<Vec<u64>, Refusal>, short: bool) -> Verdict {
+fn all_indexes(
+    terms: &Terms,
+    payload: &[u8],
+    indexes: Result<Vec<u64>, Refusal>,
+    short: bool,
+) -> Verdict {
     let needed = indexes.as_ref().map_or(0, Vec::len);
     let room = room(needed, short);
-    let port = stored(|out| hns_port::indexes(payload, out), room);
+    let port = stored(|out| hns_port::indexes(terms, payload, out), room);
     let rust = indexes.and_then(|indexes| rust::enough(needed, room).map(|()| indexes));
     Verdict::of(&port, &(rust, true))
 }
@@ -379,7 +390,7 @@ pub fn find(case: &Case) -> Verdict {
     let packet = decode(kind, &case.bytes);
     let items = packet.as_ref().map_or(&[][..], inventories);
     let hash = sought(case, items);
-    let port = hns_port::find(kind, &case.bytes, &hash);
+    let port = hns_port::find(&rights::full(case), kind, &case.bytes, &hash);
     let rust = packet.as_ref().map_err(|refusal| *refusal);
     let rust = rust.map(|_| items.iter().any(|item| item.hash == hash).then_some(true));
     let stands = |place: usize| items.get(place).is_some_and(|item| item.hash == hash);
@@ -392,7 +403,7 @@ pub fn find(case: &Case) -> Verdict {
 pub fn rewrite(case: &Case) -> Verdict {
     let (kind, room) = (packet_type(case), case.number(1) as usize);
     let mut out = filled(room);
-    let port = hns_port::rewrite(kind, &case.bytes, &mut out);
+    let port = hns_port::rewrite(&rights::full(case), kind, &case.bytes, &mut out);
     written(&port, &out, again(kind, &case.bytes, room))
 }
 

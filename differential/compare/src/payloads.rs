@@ -30,6 +30,8 @@ pub fn ask_all(packet_type: u8, bytes: &[u8], run: &mut impl FnMut(&Case)) {
         (Kind::Find, 0),
         (Kind::OwnedPacket, 0),
         (Kind::OwnedFrame, 0),
+        // The role goes round with the length.
+        (Kind::Rights, bytes.len() as u64),
     ];
     let mut case = Case::new(Kind::Packet, bytes.to_vec(), &[packet_type.into(), 0]);
     for (kind, second) in questions {

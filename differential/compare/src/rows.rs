@@ -128,14 +128,41 @@ fn frames(case: &Case, to: *mut u8, store: *mut u8, tally: *mut u64) -> Vec<Call
     ]
 }
 
+/// The numbers of a role with the full mask; if one alone is lent, nothing may be sent.
+static TERMS: [u64; 9] = [0, u64::MAX, 0, 0, 0, 0, 0, 0, 0];
+/// A role that there is not.
+static NO_ROLE: [u64; 1] = [8];
+
+/// The full mask in turn: no numbers, or all.
+const fn terms(case: &Case) -> (*const u64, usize) {
+    let lent = [0, TERMS.len()][case.bytes.len() % 2];
+    (TERMS.as_ptr(), lent)
+}
+
 fn packets(case: &Case, to: *mut u8) -> Vec<Call<'_>> {
     let (input, len) = (case.bytes.as_ptr(), case.bytes.len());
+    let (on, n) = terms(case);
     let kind = packet_type(case);
     let of_packet = move |row: &[u64]| of_packet(kind, row);
     vec![
-        call!(16, of_packet, hns_read_packet(kind, input, len, to, ROOM)),
+        call!(
+            16,
+            of_packet,
+            hns_read_packet(on, n, kind, input, len, to, ROOM)
+        ),
         call!(16, |_| 3, hns_length_card(kind)),
-        call!(6, |_| 2, hns_rewrite(kind, input, len, to, ROOM)),
+        call!(6, |_| 2, hns_rewrite(on, n, kind, input, len, to, ROOM)),
+        call!(6, |_| 1, hns_may_send(on, n, kind)),
+        call!(6, |_| 2, hns_types_granted(on, n)),
+        // What no role may send.
+        call!(
+            16,
+            of_packet,
+            hns_read_packet(on, 1, kind, input, len, to, ROOM)
+        ),
+        call!(6, |_| 2, hns_rewrite(on, 1, kind, input, len, to, ROOM)),
+        call!(6, |_| 1, hns_may_send(on, 1, kind)),
+        call!(6, |_| 2, hns_types_granted(NO_ROLE.as_ptr(), 1)),
     ]
 }
 
@@ -164,6 +191,7 @@ pub const fn of_item(kind: u8) -> usize {
 /// The hash to find is that of the item at the place, or of zeros.
 fn lists(case: &Case, many: *mut u64) -> Vec<Call<'_>> {
     let (input, len) = (case.bytes.as_ptr(), case.bytes.len());
+    let (on, n) = terms(case);
     let (kind, place) = (packet_type(case), case.number(1) as usize);
     let found = |row: &[u64]| if row[1] == 1 { 3 } else { 2 };
     let at = place.saturating_mul(36).saturating_add(5);
@@ -173,11 +201,15 @@ fn lists(case: &Case, many: *mut u64) -> Vec<Call<'_>> {
         call!(
             16,
             move |_| of_item(kind),
-            hns_item(kind, input, len, place)
+            hns_item(on, n, kind, input, len, place)
         ),
-        call!(16, |_| 2, hns_indexes(input, len, many, ROOM)),
-        call!(16, |_| 2, hns_item_numbers(kind, input, len, many, ROOM)),
-        call!(16, found, hns_find(kind, input, len, hash, 32)),
+        call!(16, |_| 2, hns_indexes(on, n, input, len, many, ROOM)),
+        call!(
+            16,
+            |_| 2,
+            hns_item_numbers(on, n, kind, input, len, many, ROOM)
+        ),
+        call!(16, found, hns_find(on, n, kind, input, len, hash, 32)),
     ]
 }
 

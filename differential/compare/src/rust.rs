@@ -15,7 +15,7 @@ pub const NETWORKS: [NetworkMagic; 4] = [
 ];
 
 /// How often each refusal was the answer.
-pub static REFUSED: [AtomicU64; 21] = [const { AtomicU64::new(0) }; 21];
+pub static REFUSED: [AtomicU64; 23] = [const { AtomicU64::new(0) }; 23];
 
 pub fn refusal(number: u64, a: u64, b: u64) -> Refusal {
     REFUSED[number as usize].fetch_add(1, Ordering::Relaxed);
