@@ -156,7 +156,8 @@ fn show(packet: Packet) {
 }
 
 fn ask_packet(packet_type: u8, payload: &[u8], out: &mut [u8]) {
-    let packet = hns_p2p_packet::read_packet(packet_type, payload, out);
+    let no_terms = [0u64; 0];
+    let packet = hns_p2p_packet::read_packet(&no_terms, packet_type, payload, out);
     show(packet);
     text(b" text");
     if 0 < out.len() {
@@ -165,7 +166,8 @@ fn ask_packet(packet_type: u8, payload: &[u8], out: &mut [u8]) {
 }
 
 fn ask_item(packet_type: u8, payload: &[u8], place: usize) {
-    match hns_p2p_items::item(packet_type, payload, place) {
+    let no_terms = [0u64; 0];
+    match hns_p2p_items::item(&no_terms, packet_type, payload, place) {
         Item::Address(a) => {
             text(b"address");
             address(a);
@@ -196,12 +198,13 @@ fn stands(payload: &[u8], at: usize, hash: &[u8]) -> bool {
 
 // Document 01 leaves open which place is answered: the hash must stand there.
 fn ask_find(packet_type: u8, payload: &[u8], hash: [u8; 32]) {
-    match hns_p2p_find::find(packet_type, payload, hash) {
+    let no_terms = [0u64; 0];
+    match hns_p2p_find::find(&no_terms, packet_type, payload, hash) {
         Found::Nowhere => text(b"nowhere"),
         Found::Refused(refusal) => refused(refusal),
         Found::At(place) => {
             text(b"found");
-            let found = hns_p2p_items::item(packet_type, payload, place);
+            let found = hns_p2p_items::item(&no_terms, packet_type, payload, place);
             if let Item::Inventory { kind: _, hash: at } = found {
                 if stands(payload, at, &hash) {
                     return;
@@ -228,7 +231,8 @@ fn numbers(values: &[u64], stored: usize) {
 }
 
 fn ask_indexes(payload: &[u8], out: &mut [u64]) {
-    let stored = match hns_p2p_indexes::indexes(payload, out) {
+    let no_terms = [0u64; 0];
+    let stored = match hns_p2p_indexes::indexes(&no_terms, payload, out) {
         Stored::Refused(refusal) => {
             refused(refusal);
             0

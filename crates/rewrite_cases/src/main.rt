@@ -73,7 +73,8 @@ fn show(out: &[u8], written: usize) {
 
 fn ask(packet_type: u8, payload: &[u8], out: &mut [u8]) {
     fill(out);
-    let written = match hns_p2p_rewrite::rewrite(packet_type, payload, out) {
+    let no_terms = [0u64; 0];
+    let written = match hns_p2p_rewrite::rewrite(&no_terms, packet_type, payload, out) {
         Encoded::Refused(why) => {
             refused(why);
             0

@@ -117,7 +117,8 @@ fn show_packet(packet_type: u8, payload: &[u8], row: [u64; 16]) {
 
 fn ask_packet(packet_type: u8, payload: &[u8], out: &mut [u8]) {
     let mut row = [0u64; 16];
-    hns_ffi_packets::hns_read_packet(packet_type, payload, out, &mut row);
+    let no_terms = [0u64; 0];
+    hns_ffi_packets::hns_read_packet(&no_terms, packet_type, payload, out, &mut row);
     if row[0] == 0 {
         case_lines::number(0);
         show_packet(packet_type, payload, row);
@@ -148,7 +149,8 @@ fn show_item(packet_type: u8, payload: &[u8], row: [u64; 16]) {
 
 fn ask_item(packet_type: u8, payload: &[u8], place: usize) {
     let mut row = [0u64; 16];
-    hns_ffi_packets::hns_item(packet_type, payload, place, &mut row);
+    let no_terms = [0u64; 0];
+    hns_ffi_packets::hns_item(&no_terms, packet_type, payload, place, &mut row);
     if row[0] == 0 {
         case_lines::number(0);
         show_item(packet_type, payload, row);
@@ -161,7 +163,8 @@ fn ask_item(packet_type: u8, payload: &[u8], place: usize) {
 fn ask_indexes(payload: &[u8]) {
     let mut row = [0u64; 16];
     let mut out = [170u64; 5];
-    hns_ffi_packets::hns_indexes(payload, &mut out, &mut row);
+    let no_terms = [0u64; 0];
+    hns_ffi_packets::hns_indexes(&no_terms, payload, &mut out, &mut row);
     case_lines::count(row);
     case_lines::five(out[0], out[1], out[2], out[3], out[4]);
 }
@@ -170,7 +173,8 @@ fn ask_indexes(payload: &[u8]) {
 fn ask_numbers(packet_type: u8, payload: &[u8]) {
     let mut row = [0u64; 16];
     let mut out = [170u64; 10];
-    hns_ffi_packets::hns_item_numbers(packet_type, payload, &mut out, &mut row);
+    let no_terms = [0u64; 0];
+    hns_ffi_packets::hns_item_numbers(&no_terms, packet_type, payload, &mut out, &mut row);
     case_lines::count(row);
     case_lines::five(out[0], out[1], out[2], out[3], out[4]);
     case_lines::five(out[5], out[6], out[7], out[8], out[9]);
@@ -187,13 +191,15 @@ fn ask_all(packet_type: u8, payload: &[u8]) {
 // What stands at the place that the finder answers: document 01 leaves open which place it is.
 fn show_found(packet_type: u8, payload: &[u8], place: u64) {
     let mut row = [0u64; 16];
-    hns_ffi_packets::hns_item(packet_type, payload, place as usize, &mut row);
+    let no_terms = [0u64; 0];
+    hns_ffi_packets::hns_item(&no_terms, packet_type, payload, place as usize, &mut row);
     case_lines::part(payload, row[2], 32);
 }
 
 fn ask_find(packet_type: u8, payload: &[u8], hash: &[u8]) {
     let mut row = [0u64; 16];
-    hns_ffi_packets::hns_find(packet_type, payload, hash, &mut row);
+    let no_terms = [0u64; 0];
+    hns_ffi_packets::hns_find(&no_terms, packet_type, payload, hash, &mut row);
     case_lines::count(row);
     if (row[0] == 0) & (row[1] == 1) {
         show_found(packet_type, payload, row[2]);

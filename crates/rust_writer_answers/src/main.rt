@@ -112,7 +112,8 @@ fn write(packet_type: u8, fields: &[u8], out: &mut [u8], row: &mut [u64]) {
 
 fn call(kind: u8, packet_type: u8, bytes: &[u8], out: &mut [u8], row: &mut [u64]) {
     if kind == 28 {
-        hns_ffi_packets::hns_rewrite(packet_type, bytes, out, row);
+        let no_terms = [0u64; 0];
+        hns_ffi_packets::hns_rewrite(&no_terms, packet_type, bytes, out, row);
     } else {
         write(packet_type, bytes, out, row);
     }

@@ -53,7 +53,8 @@ fn show(packet: Packet) {
 
 fn read(name: &[u8], packet_type: u8, payload: &[u8]) {
     let mut agent = [0u8; 255];
-    let packet = hns_p2p_packet::read_packet(packet_type, payload, &mut agent);
+    let no_terms = [0u64; 0];
+    let packet = hns_p2p_packet::read_packet(&no_terms, packet_type, payload, &mut agent);
     text(name);
     show(packet);
     end_line();
@@ -61,7 +62,8 @@ fn read(name: &[u8], packet_type: u8, payload: &[u8]) {
 
 fn item(name: &[u8], packet_type: u8, payload: &[u8], place: usize) {
     text(name);
-    match hns_p2p_items::item(packet_type, payload, place) {
+    let no_terms = [0u64; 0];
+    match hns_p2p_items::item(&no_terms, packet_type, payload, place) {
         Item::Inventory { kind: _, hash } => field(b" hash at", hash as u64),
         Item::Refused(refusal) => refused(refusal),
         _ => text(b" another item"),
@@ -285,7 +287,8 @@ fn pushes() {
 fn indexes(name: &[u8], payload: &[u8]) {
     let mut out = [0u64; 3];
     text(name);
-    if let Stored::Count(_) = hns_p2p_indexes::indexes(payload, &mut out) {
+    let no_terms = [0u64; 0];
+    if let Stored::Count(_) = hns_p2p_indexes::indexes(&no_terms, payload, &mut out) {
         number(out[0]);
         number(out[1]);
         number(out[2]);
@@ -343,7 +346,8 @@ fn worked_relay() {
 // A header of the packet, by its place in the list: its bytes as they read, and are encoded again.
 fn header(name: &[u8], payload: &[u8], place: usize) {
     text(name);
-    if let Item::Header(at) = hns_p2p_items::item(11, payload, place) {
+    let no_terms = [0u64; 0];
+    if let Item::Header(at) = hns_p2p_items::item(&no_terms, 11, payload, place) {
         let d = hns_header_consensus::read_header(payload, at);
         let h = d.header;
         let bytes = h.encode();
