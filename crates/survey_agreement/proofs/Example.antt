@@ -1,4 +1,4 @@
--- Document 01's example of an exported survey, whole, computed. Assumes nothing.
+-- Document 01's sixteen digits, and its example of an exported survey, whole, both computed. Assumes nothing.
 use Prim.Native.Nat.{ℕ}
 use mathlib.Core.Path.{_≡_, refl}
 use mathlib.Core.List.{List, [], _∷_}
@@ -11,6 +11,11 @@ use Rattle.hns_p2p_frame.specs.Push.{settled, passing, admitted, push}
 use Rattle.survey_digits.specs.Digits.{digit, hex, decimalUpTo, decimal}
 use Rattle.survey_export.specs.Text.{hexPayload, line, lastLine, heldLine}
 use Rattle.survey_export.specs.Survey.{lines, lastText, addedBy, chunk, text, surveyBy, surveyFrom, survey}
+
+-- each of the sixteen once, in order: '0123456789abcdef'
+pub sixteen : hex (0x01 ∷ 0x23 ∷ 0x45 ∷ 0x67 ∷ 0x89 ∷ 0xab ∷ 0xcd ∷ 0xef ∷ []) ≡ 48 ∷ 49 ∷ 50 ∷ 51 ∷ 52 ∷ 53 ∷ 54 ∷ 55 ∷ 56 ∷ 57 ∷ 97 ∷ 98 ∷ 99 ∷ 100 ∷ 101 ∷ 102 ∷ []
+unfolding digit hex
+sixteen = refl
 
 -- a frame of type 1 with no payload, one of type 2 with eight bytes, and two bytes more
 abbrev log : List ℕ

@@ -1,7 +1,7 @@
 -- How the loops over digits meet the definitions. Assumes nothing.
 use Prim.Native.Nat.{ℕ, zero, suc, _+_, _*_, _/_, _%_, _^_, _≤_, _<_}
-use mathlib.Core.Path.{_≡_, refl, sym, ap, _∙_}
-use mathlib.Core.List.{List, [], _∷_, _++_, append-assoc, map}
+use mathlib.Core.Path.{_≡_, refl, sym, _∙_}
+use mathlib.Core.List.{List, [], _∷_, _++_, append-assoc}
 use native.Mathlib.Omega.{arith}
 use native.Mathlib.Nat.{pow-suc}
 use native.Mathlib.Numerals.{add-one}
@@ -12,33 +12,15 @@ use Rattle.hns_encoding.specs.Put.{Put, advance}
 use Rattle.hns_encoding.proofs.Puts.{then, put-length, splice-byte}
 use Rattle.survey_digits.specs.Digits.{digit, hex, decimalUpTo, decimal}
 
--- ---- the table of sixteen
+-- ---- the formula
 
-counting : ℕ → ℕ → List ℕ
-counting zero i = []
-counting (suc n) i = i ∷ counting n (suc i)
-
-abbrev pub table : List ℕ
-table = 48 ∷ 49 ∷ 50 ∷ 51 ∷ 52 ∷ 53 ∷ 54 ∷ 55 ∷ 56 ∷ 57 ∷ 97 ∷ 98 ∷ 99 ∷ 100 ∷ 101 ∷ 102 ∷ []
-
--- each entry is the digit of its place: the whole table at once
-table-is : table ≡ map digit (counting 16 0)
-unfolding counting digit
-table-is = refl
-
-counted : (n i k : ℕ) → k < n → (f : ℕ → ℕ) → getD (map f (counting n i)) k 0 ≡ f (i + k)
-unfolding counting
-counted zero i k h f = absurd (omega arith)
-counted (suc n) i zero h f = ap f (omega arith)
-counted (suc n) i (suc k) h f = counted n (suc i) k (omega arith) f ∙ ap f (omega arith)
-
-pub table-digit : (d : ℕ) → d < 16 → getD table d 0 ≡ digit d
-table-digit d h = ap (λ (t : List ℕ). getD t d 0) table-is ∙ (counted 16 0 d h digit ∙ ap digit (omega arith))
-
--- the first ten are those of decimal numbers
-pub table-low : (d : ℕ) → d < 10 → getD table d 0 ≡ 48 + d
+pub digit-low : (d : ℕ) → d < 10 → digit d ≡ 48 + d
 unfolding digit
-table-low d h = table-digit d (omega arith) ∙ simp (lt-ltb _ _ h)
+digit-low d h = rw (lt-ltb _ _ h)
+
+pub digit-high : (d : ℕ) → 10 ≤ d → digit d ≡ 87 + d
+unfolding digit
+digit-high d h = rw (le-ltb _ _ h)
 
 -- ---- a turn of the loop over bytes
 
@@ -48,7 +30,7 @@ hex-append [] y = refl
 hex-append (b ∷ x) y = rw (hex-append x y)
 
 -- a store is a put of one byte
-pub put-set : (o : List ℕ) (p b : ℕ) → p + 1 < 2 ^ 64 → Put o p (b ∷ []) (set o p b) (p + 1)
+put-set : (o : List ℕ) (p b : ℕ) → p + 1 < 2 ^ 64 → Put o p (b ∷ []) (set o p b) (p + 1)
 unfolding advance
 put-set o p b h = record { next = omega arith; bytes = sym (splice-byte o p b) }
 
@@ -58,6 +40,15 @@ pub hex-turn : {o : List ℕ} {p : ℕ} {o₁ : List ℕ} {p₁ : ℕ} {o₂ : L
 unfolding hex
 hex-turn s i h l high low first second third =
     rw (add-one, take-suc s i 0 l, hex-append, ← high, ← low) (then h first (then (rw (put-length first) h) second third))
+
+-- the same by two stores
+pub set-turn : {o o₁ : List ℕ} (s : List ℕ) (p i : ℕ) {a b : ℕ} → length o < 2 ^ 64 → i < length s → p + 2 * (i + 1) < 2 ^ 64
+    → a ≡ digit (getD s i 0 / 16) → b ≡ digit (getD s i 0 % 16)
+    → Put o p (hex (take i s)) o₁ (p + 2 * i) → Put o p (hex (take (i + 1) s)) (set (set o₁ (p + 2 * i) a) (p + 2 * i + 1) b) (p + 2 * (i + 1))
+set-turn {o₁ = o₁} s p i {a} h l room high low so-far =
+    let next : p + 2 * i + 1 + 1 ≡ p + 2 * (i + 1) = omega arith in
+    let at₁ = p + 2 * i in
+    rw next at (hex-turn s i h l high low so-far (put-set o₁ at₁ a (omega arith)) (put-set (set o₁ at₁ a) (at₁ + 1) _ (omega arith)))
 
 -- ---- turns of the loop over decimal digits
 

@@ -1,28 +1,36 @@
-// Digits of the exported survey: bytes in hexadecimal, a number in decimal, both from one table of sixteen.
+// Digits of the exported survey: bytes in hexadecimal, a number in decimal, both by one formula.
 use hns_encoder::Encoder;
-ghost use Prim.Native.Nat.{_*_, _≤_};
+ghost use mathlib.Core.Path.{_≡_};
+ghost use Prim.Native.Nat.{_*_, _≤_, _<_};
 ghost use lib.ListN.{length};
 ghost use Rattle.hns_encoding.specs.Bytes.{left};
 ghost use Rattle.hns_encoding.specs.Put.{Put};
-ghost use Rattle.survey_digits.specs.Digits.{hex, decimal};
+ghost use Rattle.survey_digits.specs.Digits.{digit, hex, decimal};
 
-const DIGITS: [u8; 16] = *b"0123456789abcdef";
+// The digit of a value: a value below ten is added to 48, any other to 87. What 87 has more is chosen and not jumped to: a
+// run of digits is then compared, masked and added many at a time, with no branch and no load.
+fn digit_of(value: u8) -> u8
+    requires { ⌜ value < 16 ⌝ }
+    ensures { λ r. ⌜ r ≡ digit value ⌝ }
+{
+    let more = if value < 10 { 0 } else { 87 - 48 };
+    48 + value + more
+}
 
-// Bytes as digits where they fit: plain stores. The table is taken before the loop, which then keeps it at hand.
+// Bytes as digits if they fit: plain stores.
 fn set_hex(encoder: Encoder, out: &mut [u8], bytes: &[u8]) -> Encoder
     requires { ⌜ 2 * length (now bytes) ≤ left (now out) (encoder .position) ⌝ }
     ensures { λ r. ⌜ Put (now (out .entry)) (encoder .position) (hex (now (bytes .entry))) (now (out .exit)) (r .position) ⌝ }
 {
-    let digits = DIGITS;
     let at = encoder.position;
     let mut i = 0;
     while i < bytes.len() {
         let b = bytes[i];
-        let high = (b / 16) as usize;
-        let low = (b % 16) as usize;
+        let high = digit_of(b / 16);
+        let low = digit_of(b % 16);
         let to = at + 2 * i;
-        out[to] = digits[high];
-        out[to + 1] = digits[low];
+        out[to] = high;
+        out[to + 1] = low;
         i += 1;
     }
     let end = at + 2 * bytes.len();
@@ -33,15 +41,14 @@ fn set_hex(encoder: Encoder, out: &mut [u8], bytes: &[u8]) -> Encoder
 fn put_hex_cut(encoder: Encoder, out: &mut [u8], bytes: &[u8]) -> Encoder
     ensures { λ r. ⌜ Put (now (out .entry)) (encoder .position) (hex (now (bytes .entry))) (now (out .exit)) (r .position) ⌝ }
 {
-    let digits = DIGITS;
     let mut e = encoder;
     let mut i = 0;
     while i < bytes.len() {
         let b = bytes[i];
-        let high = (b / 16) as usize;
-        let low = (b % 16) as usize;
-        e = e.put_u8(out, digits[high]);
-        e = e.put_u8(out, digits[low]);
+        let high = digit_of(b / 16);
+        let low = digit_of(b % 16);
+        e = e.put_u8(out, high);
+        e = e.put_u8(out, low);
         i += 1;
     }
     e
@@ -61,17 +68,16 @@ pub fn put_hex(encoder: Encoder, out: &mut [u8], bytes: &[u8]) -> Encoder
 pub fn put_decimal(encoder: Encoder, out: &mut [u8], n: u64) -> Encoder
     ensures { λ r. ⌜ Put (now (out .entry)) (encoder .position) (decimal n) (now (out .exit)) (r .position) ⌝ }
 {
-    let digits = DIGITS;
     let mut text = [0u8; 20];
     let mut rest = n;
     let mut i: usize = 19;
     while 10 <= rest {
-        let low = (rest % 10) as usize;
-        text[i] = digits[low];
+        let low = (rest % 10) as u8;
+        text[i] = digit_of(low);
         rest /= 10;
         i -= 1;
     }
-    let first = rest as usize;
-    text[i] = digits[first];
+    let first = rest as u8;
+    text[i] = digit_of(first);
     encoder.put_bytes(out, &text[i..])
 }

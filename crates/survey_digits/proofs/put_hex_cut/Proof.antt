@@ -7,15 +7,15 @@ use Rattle.hns_encoding.specs.Put.{Put}
 use Rattle.hns_encoding.proofs.Puts.{put-length}
 use Rattle.survey_digits.specs.Digits.{hex}
 use Rattle.hns_encoding.proofs.Puts.{put-none}
-use Rattle.survey_digits.proofs.Digits.{hex-turn, table-digit}
+use Rattle.survey_digits.proofs.Digits.{hex-turn}
 use Rattle.survey_digits.proofs.put_hex_cut.Statement.{statement}
 use Rattle.survey_digits.proofs.put_hex_cut.Tie as tie
 
 abbrev Inv-loop : tie.InvT-loop
-Inv-loop out₀ bytes digits e₀ i₀ out e i = (i ≤ length bytes) × Put out₀ (e₀ .position) (hex (take i bytes)) out (e .position)
+Inv-loop out₀ bytes e₀ i₀ out e i = (i ≤ length bytes) × Put out₀ (e₀ .position) (hex (take i bytes)) out (e .position)
 
 abbrev μ-loop : tie.MeasureT-loop
-μ-loop out₀ bytes digits e₀ i₀ out e i = length bytes - i
+μ-loop out₀ bytes e₀ i₀ out e i = length bytes - i
 
 byte : (c : tie.After-shared-slice-known2 Inv-loop μ-loop) → getD (c .before .before .before .before .before .args .bytes .now) (c .before .before .loop .i) 0 < 256
 byte c = c .shared-slice-known2 .given (c .before .before .loop .i) .fits
@@ -27,20 +27,14 @@ loop-holds c = (omega arith, put-none _ _ (omega arith))
 shared-slice-read-b : tie.Need-shared-slice-read-b Inv-loop μ-loop
 shared-slice-read-b c = omega arith
 
-cast-high : tie.Need-cast-high Inv-loop μ-loop
-cast-high c = omega (arith, byte c)
+digit-of-requires : tie.Need-digit-of-requires Inv-loop μ-loop
+digit-of-requires c κs = omega (arith, byte c)
 
-cast-low : tie.Need-cast-low Inv-loop μ-loop
-cast-low c = omega (arith, byte c)
-
-array-read-put-u8 : tie.Need-array-read-put-u8 Inv-loop μ-loop
-array-read-put-u8 c = omega (arith, byte (c .before))
+digit-of-requires-2 : tie.Need-digit-of-requires-2 Inv-loop μ-loop
+digit-of-requires-2 c κs = omega arith
 
 put-u8-requires : tie.Need-put-u8-requires Inv-loop μ-loop
 put-u8-requires c κs = tt
-
-array-read-put-u8-2 : tie.Need-array-read-put-u8-2 Inv-loop μ-loop
-array-read-put-u8-2 c = omega (arith, byte (c .before .before .before .before .before))
 
 put-u8-requires-2 : tie.Need-put-u8-requires-2 Inv-loop μ-loop
 put-u8-requires-2 c κs = tt
@@ -53,12 +47,10 @@ loop-less c = omega arith
 
 loop-again : tie.Need-loop-again Inv-loop μ-loop
 loop-again c =
-    let a = c .before .before .before .before .before .before .before .before .before .before .before .before .before .args in
-    let l = c .before .before .before .before .before .before .before .before .before .before .loop in
-    let b = byte (c .before .before .before .before .before .before .before .before) in (
-      omega arith,
-      hex-turn (a .bytes .now) (l .i) (omega arith) (omega arith) (table-digit _ (omega (arith, b))) (table-digit _ (omega (arith, b))) (l .inv .1) (c .before .before .before .before .before .before .put-u8 .ensures) (c .before .before .put-u82 .ensures),
-    )
+    let d = c .before .before .before .before .before .before .before .before in
+    let l = d .before .before .before .before .loop in
+    let a = d .before .before .before .before .before .before .before .args in
+    (omega arith, hex-turn (a .bytes .now) (l .i) (omega arith) (omega arith) (d .before .digit-of .ensures) (d .digit-of2 .ensures) (l .inv .1) (c .before .before .before .before .before .before .put-u8 .ensures) (c .before .before .put-u82 .ensures))
 
 same-length : tie.Need-same-length Inv-loop μ-loop
 same-length c = put-length (c .before .loop .inv .1)
@@ -76,11 +68,9 @@ put-hex-cut-spec =
     μ-loop
     loop-holds
     shared-slice-read-b
-    cast-high
-    cast-low
-    array-read-put-u8
+    digit-of-requires
+    digit-of-requires-2
     put-u8-requires
-    array-read-put-u8-2
     put-u8-requires-2
     add-i
     loop-less

@@ -7,34 +7,34 @@ use lib.Seq.{take-all}
 use Rattle.hns_encoding.specs.Put.{Put}
 use Rattle.hns_encoding.proofs.Puts.{put-none}
 use Rattle.survey_digits.specs.Digits.{hex}
-use Rattle.survey_digits.proofs.Digits.{hex-turn, put-set, table-digit}
+use Rattle.survey_digits.proofs.Digits.{set-turn}
 use Rattle.survey_digits.proofs.set_hex.Statement.{statement}
 use Rattle.survey_digits.proofs.set_hex.Tie as tie
 
 abbrev Inv-loop : tie.InvT-loop
-Inv-loop out₀ bytes digits at i₀ out i =
+Inv-loop out₀ bytes at i₀ out i =
     (i ≤ length bytes) × ((length out ≡ length out₀) × Put out₀ at (hex (take i bytes)) out (at + 2 * i))
 
 abbrev μ-loop : tie.MeasureT-loop
-μ-loop out₀ bytes digits at i₀ out i = length bytes - i
+μ-loop out₀ bytes at i₀ out i = length bytes - i
 
-byte : (c : tie.After-shared-slice-known Inv-loop μ-loop) → getD (c .before .before .before .args .bytes .now) (c .before .before .loop .i) 0 < 256
-byte c = c .shared-slice-known .given (c .before .before .loop .i) .fits
+byte : (c : tie.After-shared-slice-known2 Inv-loop μ-loop) → getD (c .before .before .before .before .before .args .bytes .now) (c .before .before .loop .i) 0 < 256
+byte c = c .shared-slice-known2 .given (c .before .before .loop .i) .fits
 
 loop-holds : tie.Need-loop-holds Inv-loop μ-loop
 unfolding hex
 loop-holds c =
-    let here : c .args .encoder .position + 0 ≡ c .args .encoder .position = omega arith in
+    let here : c .before .before .args .encoder .position + 0 ≡ c .before .before .args .encoder .position = omega arith in
     (omega arith, (refl, rw here (put-none _ _ (omega arith))))
 
 shared-slice-read-b : tie.Need-shared-slice-read-b Inv-loop μ-loop
 shared-slice-read-b c = omega arith
 
-cast-high : tie.Need-cast-high Inv-loop μ-loop
-cast-high c = omega (arith, byte c)
+digit-of-requires : tie.Need-digit-of-requires Inv-loop μ-loop
+digit-of-requires c κs = omega (arith, byte c)
 
-cast-low : tie.Need-cast-low Inv-loop μ-loop
-cast-low c = omega arith
+digit-of-requires-2 : tie.Need-digit-of-requires-2 Inv-loop μ-loop
+digit-of-requires-2 c κs = omega arith
 
 mul-to : tie.Need-mul-to Inv-loop μ-loop
 mul-to c = omega arith
@@ -42,14 +42,8 @@ mul-to c = omega arith
 add-to : tie.Need-add-to Inv-loop μ-loop
 add-to c = omega arith
 
-array-read-out : tie.Need-array-read-out Inv-loop μ-loop
-array-read-out c = omega (arith, byte c)
-
 slice-write-out : tie.Need-slice-write-out Inv-loop μ-loop
 slice-write-out c = omega arith
-
-array-read-out-2 : tie.Need-array-read-out-2 Inv-loop μ-loop
-array-read-out-2 c = omega arith
 
 add-out : tie.Need-add-out Inv-loop μ-loop
 add-out c = omega arith
@@ -65,15 +59,13 @@ loop-less c = omega arith
 
 loop-again : tie.Need-loop-again Inv-loop μ-loop
 loop-again c =
-    let a = c .before .before .before .args in
-    let l = c .before .before .loop in
-    let p = a .encoder .position + 2 * l .i in
-    let next : a .encoder .position + 2 * l .i + 1 + 1 ≡ a .encoder .position + 2 * (l .i + 1) = omega arith in
-    let b = byte c in (
+    let l = c .before .before .before .before .loop in
+    let a = c .before .before .before .before .before .before .before .args in
+    let p = a .encoder .position + 2 * l .i in (
       omega arith,
       (
         length-set (set (l .out) p _) (p + 1) _ ∙ length-set (l .out) p _ ∙ l .inv .1 .0,
-        rw next at (hex-turn (a .bytes .now) (l .i) (omega arith) (omega arith) (table-digit _ (omega (arith, b))) (table-digit _ (omega arith)) (l .inv .1 .1) (put-set (l .out) p _ (omega arith)) (put-set (set (l .out) p _) (p + 1) _ (omega arith))),
+        set-turn (a .bytes .now) (a .encoder .position) (l .i) (omega arith) (omega arith) (omega arith) (omega (arith, c .before .digit-of .ensures)) (omega (arith, c .digit-of2 .ensures)) (l .inv .1 .1),
       ),
     )
 
@@ -88,9 +80,9 @@ same-length c = c .before .loop .inv .1 .0
 
 returns : tie.Need-returns Inv-loop μ-loop
 returns c =
-    let s = c .before .before .args .bytes .now in
+    let s = c .before .before .before .before .args .bytes .now in
     let l = c .before .loop in
-    let all : l .i ≡ length (c .before .before .args .bytes .now) = omega arith in
+    let all : l .i ≡ length (c .before .before .before .before .args .bytes .now) = omega arith in
     rw (take-all (l .i) s (omega arith), all) at (l .inv .1 .1)
 
 pub set-hex-spec : {M : Type 1} → statement M
@@ -101,13 +93,11 @@ set-hex-spec =
     μ-loop
     loop-holds
     shared-slice-read-b
-    cast-high
-    cast-low
+    digit-of-requires
+    digit-of-requires-2
     mul-to
     add-to
-    array-read-out
     slice-write-out
-    array-read-out-2
     add-out
     slice-write-out-2
     add-i
