@@ -18,8 +18,10 @@ NAME = r"[A-Za-z_][\w'₀-₉]*(?:-[\w'₀-₉]+)*"
 TOKEN = re.compile(r"(?<![\w'₀-₉-])" + NAME)
 CAMEL = re.compile(r"^[a-z][a-z0-9]*(?:[A-Z][A-Za-z0-9]*)+'?$")
 DASHED = re.compile(r"^[a-z_][\w'₀-₉]*(?:-[\w'₀-₉]+)+$")
-DECLARED = re.compile(r"^\s*(?:unfoldable |abbrev |pub |data |record )*(" + NAME + r")\s*(?:\(|:|\{)", re.M)
-USE = re.compile(r"^\s*(?:pub )?use (Rattle\.([a-z]\w*)\.[\w.+]+?)(?:\.\{([^}]*)\}| as ([\w'-]+))?\s*$", re.M)
+DECLARED = re.compile(r"^\s*(?:(?:unfoldable |abbrev |pub )*(" + NAME + r")\s*(?:\{[^\s{}]*\}\s*)?:|(?:pub )?(?:data|record) (" + NAME + r"))", re.M)
+HELD = re.compile(r"^(?:pub )?(?:data|record) .*\n(?:(?:[ \t].*)?\n)*", re.M)
+USE = re.compile(r"^\s*(?:pub )?use ((?:Rattle\.)?([A-Za-z]\w*)\.[\w.+]+?)(?:\.\{([^}]*)\}| as ([\w'-]+))?\s*$", re.M)
+STEP = re.compile(r"\.(?:args|ensures|false|given|invariant|new|result|true)\b")
 CRATES = {path.split("/")[1] for path in glob.glob("crates/*/src")}
 
 
@@ -27,8 +29,10 @@ CRATES = {path.split("/")[1] for path in glob.glob("crates/*/src")}
 BESIDE = {
     **{it: "if_" + it.replace("-", "_") for it in "bad-header held-over index-over may-send no-role not-granted not-shortest output-short over-limit store-short tally-full turned-away".split()},
     **{it: "not_" + it.replace("-", "_") for it in "drops-last drops-last-answers-all leaves-reserved never-full refuses-all skips-reserved writes-past-end".split()},
+    "are-bytes": "bytes_are",
     "byte-total": "byte_total_is",
     "frame-total": "frame_total_is",
+    "own-mask": "by_own_mask",
     "raw-bytes": "raw_bytes_fit",
     "read-packet": "packet_read",
 }
@@ -47,21 +51,22 @@ def antt_files():
 
 
 def own_uses(text):
-    """The names that a file imports from this repository's crates, and the names that stand for its modules."""
-    names, modules = set(), set()
+    """The names that a file imports from this repository's crates, the names that stand for its modules, and names of others."""
+    names, modules, others = set(), set(), set()
     for use in USE.finditer(text):
+        found = {part.split(" as ")[0].strip() for part in (use.group(3) or "").split(",")}
         if use.group(2) not in CRATES or ".declared." in use.group(1):
+            others |= found
             continue
-        if use.group(3):
-            names |= {part.split(" as ")[0].strip() for part in use.group(3).split(",")}
+        names |= found
         modules.add(use.group(4) or use.group(1).split(".")[-1])
-    return names, modules
+    return names, modules, others
 
 
 def main():
     texts = {path: open(path, encoding="utf-8").read() for path in antt_files()}
     tokens = {path: set(TOKEN.findall(text)) for path, text in texts.items()}
-    declared = {path: set(DECLARED.findall(text)) for path, text in texts.items()}
+    declared = {path: {a or b for a, b in DECLARED.findall(text)} for path, text in texts.items()}
     camel = {name for found in tokens.values() for name in found if CAMEL.match(name)}
     dashed = collections.defaultdict(set)
     for path, names in declared.items():
@@ -69,14 +74,16 @@ def main():
             for name in names:
                 if DASHED.match(name):
                     dashed[name].add(path)
-    in_specs = {name for name, paths in dashed.items() if any("/specs/" in path for path in paths)}
+    held = {a or b for path, text in texts.items() if not walks(path) for part in HELD.findall(text) for a, b in DECLARED.findall(part)}
 
     renamed = {name: snake(name) for name in camel}
     uses = {path: own_uses(text) for path, text in texts.items()}
 
     def followed(path, name):
         """Whether a dashed name of this file is one of this repository's."""
-        return name in dashed and (name in uses[path][0] or (not walks(path) and name in declared[path]))
+        if name not in dashed or name in uses[path][2]:
+            return False
+        return name in held or name in uses[path][0] or (not walks(path) and name in declared[path])
 
     for name in sorted(dashed):
         new = snake(name)
@@ -93,8 +100,9 @@ def main():
                 return name
             if before.endswith("."):
                 module = re.search(r"([\w'-]+)\.$", before)
-                ours = name in in_specs or (module and module.group(1) in uses[path][1])
-                return renamed[name] if ours and not walks(path) else name
+                if walks(path) and STEP.match(text, match.end()):
+                    return name
+                return renamed[name] if name in held or (module and module.group(1) in uses[path][1]) else name
             line = before[before.rfind("\n") + 1 :]
             if "--" in line and before.endswith("`"):
                 return renamed[name]

@@ -114,7 +114,7 @@ module _ (X : Answer) (E : CalleeWith X) (F : After X) where
         move ! (2 ∷ 4 ∷ []) $ join ! $ frame ! $ feq_i ! (List Val) (vptr b o ∷ []) (vptr b o ∷ []) refl $ fjoin3 ! $ nothing ! $
         owned ! usize (Is usize) (uint_Makes 𝓛 w64) n _ (refl, ok) $ fjoin ! $ move ! (1 ∷ 0 ∷ []) $ fjoin ! $ done !
 
-    module _ (𝓣 : Tables 𝓤 H) (known : Triple 𝓤 (𝓣.C E.key) (callee.triple_with X E 𝓤 𝓛)) (known_after : Triple 𝓤 (𝓣.C F.key) (after.Contract-of X F 𝓤 𝓛)) where
+    module _ (𝓣 : Tables 𝓤 H) (known : Triple 𝓤 (𝓣.C E.key) (callee.triple_with X E 𝓤 𝓛)) (known-after : Triple 𝓤 (𝓣.C F.key) (after.Contract-of X F 𝓤 𝓛)) where
       walk : ent 𝓤 (on_entry 𝓛 ended.signature (κ, (κ', tt)) (q, (q', tt)) x (vptr b o ∷ [], (vint w64 n ∷ [], tt))) (WpFn 𝓤 H 𝓣.C 𝓣.Λ function (vptr b o ∷ vint w64 n ∷ []) Post)
       walk =
           qed 𝓛 ((‵ (flft κ q) ⊛ ‵ (flft κ' q') ⊛ ‵ ftrue) ∷ ‵ (owns (MutRef (named 0) κ (B κ') ∷ usize ∷ []) x (vptr b o ∷ [], (vint w64 n ∷ [], tt))) ∷ []) ∵
@@ -141,7 +141,7 @@ module _ (X : Answer) (E : CalleeWith X) (F : After X) where
           assigns ! (of_opd ! (load ! (from ! (hop ! (look ! 18 refl) (fld ! refl (stop !)))) (look_in ! 3 (sub ! 1 refl (whole !))))) (from ! (stop !)) (init ! 8 refl (tt, wt.1.1.0)) $
           use0 𝓛 (raw ((after.Contract-of X F 𝓤 𝓛).pre (after.passed X F 𝓛 κ' h r u))) (after.passes X F 𝓛 κ' h r u is wt.1.1.0.fits) $
           answers 𝓛 𝓣 (after.Contract-of X F 𝓤 𝓛) usize (after.passed X F 𝓛 κ' h r u) (‵ ftrue) (after.Ensured X F 𝓛 κ' h r) (after.Moved X F 𝓛 κ' h r)
-          known_after (λ w. id⊢ 𝓤 _) (after.states X F 𝓛 κ' h r)
+          known-after (λ w. id⊢ 𝓤 _) (after.states X F 𝓛 κ' h r)
           (and_then ! (load ! (from ! (stop !)) (look ! 15 refl)) (and_then ! (load ! (from ! (stop !)) (look ! 9 refl)) (no_more !))) (λ w m e' fits. move ! (1 ∷ []) $
           drop ! $
           -- [the place; the answer; 'a's token; what the Decoder owns; its cell; the open borrow; obs; auth; n's; _6; …; _5; …; _4; …; _3; …; _2; …; _1; …; room for _0; …]
@@ -161,13 +161,13 @@ module _ (X : Answer) (E : CalleeWith X) (F : After X) where
           keep ! (0 ∷ 1 ∷ 2 ∷ 4 ∷ 5 ∷ []) $ by ! (exits r u m e e'))))))))))))
 
   module _ {M : Type 1} {𝓤 : Ura M} (𝓛 : Logic 𝓤) (𝓣 : Tables 𝓤 𝓛.H)
-      (known : Triple 𝓤 (𝓣.C E.key) (callee.triple_with X E 𝓤 𝓛)) (known_after : Triple 𝓤 (𝓣.C F.key) (after.Contract-of X F 𝓤 𝓛)) where
+      (known : Triple 𝓤 (𝓣.C E.key) (callee.triple_with X E 𝓤 𝓛)) (known-after : Triple 𝓤 (𝓣.C F.key) (after.Contract-of X F 𝓤 𝓛)) where
     open 𝓛 use {H}
 
     walks : Walks 𝓛 ended stayed (WpFn 𝓤 H 𝓣.C 𝓣.Λ function) (clauses 𝓤)
     walks = walked 𝓛 ended stayed (clauses 𝓤) (WpFn 𝓤 H 𝓣.C 𝓣.Λ function) (λ κs. (mut_vals, (uint_vals w64, tt))) (λ κs. (mut_Tells (named 0) κs.0 (B κs.1.0), (uint_Tells w64, tt)))
         (λ κs qs bounds a g are. via 𝓤 _ (fst∗ 𝓤 _ (emp 𝓤))
-        (walk 𝓛 κs.0 κs.1.0 qs.0 qs.1.0 bounds a.0.ref_ptr.0 a.0.ref_ptr.1 a.0.ghost_name a.0.now a.1.0 are.1.0.1 𝓣 known known_after))
+        (walk 𝓛 κs.0 κs.1.0 qs.0 qs.1.0 bounds a.0.ref_ptr.0 a.0.ref_ptr.1 a.0.ghost_name a.0.now a.1.0 are.1.0.1 𝓣 known known-after))
 
     meets : Meets 𝓛 ended.signature (WpFn 𝓤 H 𝓣.C 𝓣.Λ function) (closing 𝓛 ended (clauses 𝓤))
     meets = walk_Meets 𝓛 ended stayed (Goes-ref 𝓛 2 0 tt behind, (Goes-none 𝓛 2 (λ _. usize) yes (λ κs x f. refl), tt)) (clauses 𝓤)

@@ -106,5 +106,5 @@ readings =
       away = λ u t s r a. rw a;
       full = plain;
       alike = alike_reads;
-      granted-more = λ u role bits t s a. rw (still_admitted u role bits t (length s) a, a);
+      granted_more = λ u role bits t s a. rw (still_admitted u role bits t (length s) a, a);
     }

@@ -32,13 +32,13 @@ stored s q = stored_by q
 abbrev calls_with : (s : List ℕ) (t : ℕ) → Reading s t → (t ≡ 24 → List ℕ → Answer) → Calls t
 calls_with s t q indexes =
     record {
-      read-payload = answered ((row t).packet s) q;
-      read-packet = answer_by ((row t).packet s) ((row t).text s) q;
+      read_payload = answered ((row t).packet s) q;
+      packet_read = answer_by ((row t).packet s) ((row t).text s) q;
       listing = list_in (answered ((row t).packet s) q);
       item = λ k. item_by k (listed_by t s q);
       find = listed_by t s q;
       indexes = indexes;
-      item-numbers = numbers_by (listed_by t s q);
+      item_numbers = numbers_by (listed_by t s q);
       rewrite = rewritten_by (from_value t s) q;
     }
 
@@ -69,9 +69,9 @@ calls =
     let same : (u u' : Terms) (t : ℕ) (s : List ℕ) → read_under u t s ≡ read_under u' t s → calls_under u t s ≡ calls_under u' t s = λ u u' t s e. under_by u t s ∙ (ap (calls_by s t) e ∙ sym (under_by u' t s)) in
     let plainly : (u : Terms) (t : ℕ) (s : List ℕ) → read_under u t s ≡ read_by (layout t) s → calls_under u t s ≡ calls_of t s = λ u t s e. under_by u t s ∙ (ap (calls_by s t) e ∙ sym (of_by t s)) in
     record {
-      one-reading = same;
-      own-mask = λ u u' a. record { rights = alike u u' a; admit = alike_admitted u u' a; reading = λ t s. same u u' t s (readings.alike u u' a t s) };
-      granted-more = λ u role bits t s a. same _ u t s (readings.granted_more u role bits t s a);
+      one_reading = same;
+      by_own_mask = λ u u' a. record { rights = alike u u' a; admit = alike_admitted u u' a; reading = λ t s. same u u' t s (readings.alike u u' a t s) };
+      granted_more = λ u role bits t s a. same _ u t s (readings.granted_more u role bits t s a);
       full = λ u f t s. plainly u t s (readings.full u f t s);
       passed = λ u t s a. plainly u t s (readings.passed u t s a);
       away = λ u t s r a. under_by u t s ∙ (ap (calls_by s t) (readings.away u t s r a) ∙ sym (refusing_by r t s));

@@ -40,8 +40,8 @@ pub lent : LentNumbers
 lent =
     record {
       none = calls.full (terms_of []) full.no_numbers;
-      other_mask = λ role k x masks d. calls.own_mask _ _ (other_mask role k x masks d);
-      granted-more = λ role k bits masks t s e.
+      other_mask = λ role k x masks d. calls.by_own_mask _ _ (other_mask role k x masks d);
+      granted_more = λ role k bits masks t s e.
           ap (λ (u : Terms). calls_under u t s) (granting_lent role k bits masks) ∙ calls.granted_more (terms_of (role ∷ masks)) k bits t s e;
       cut = cut_off;
     }

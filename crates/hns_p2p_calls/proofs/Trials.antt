@@ -63,13 +63,13 @@ verack_stands r x y = let z : ◌≡◌ {A = ℕ} 0 1 = cc in absurd (omega arit
 
 -- a role other than k, and a mask of its own that grants what the mask of k does not
 full_one : Full (only full_mask)
-full_one = record { a-role = omega arith; all = refl }
+full_one = record { a_role = omega arith; all = refl }
 
 abbrev second : Terms
 second = record { role = 1; masks = 0 ∷ full_mask ∷ [] }
 
 full_two : Full second
-full_two = record { a-role = omega arith; all = refl }
+full_two = record { a_role = omega arith; all = refl }
 
 nothing_granted : granted 0 1 ≡ false
 unfolding granted bit bit_of
@@ -117,16 +117,16 @@ top_none = refl
 pub trials_fail : TrialsFail
 trials_fail =
     record {
-      length-first = λ reader wrong is.
+      length_first = λ reader wrong is.
           let u : Terms = record { role = 8; masks = [] } in
           let s = zeros 8000001 in
           let long : max_payload < length s = omega (arith, zeros_length 8000001) in
           apart no_role (payload_too_large (length s)) (away reader is u 0 s (not_sent (if_no_role (omega arith)))) (wrong u 0 s [] long) (λ e. omega arith);
-      other-mask = other;
-      other-grants = grants;
-      bit-30-for-all = λ reader wrong is.
+      other_mask = other;
+      other_grants = grants;
+      bit_30_for_all = λ reader wrong is.
           verack_stands not_granted (away reader is (only (2 ^ 30)) 1 [] (not_sent (if_not_granted (omega arith) not_one))) (ap packet (wrong (only (2 ^ 30)) 1 [] [] (omega arith) thirty (omega arith)) ∙ verack);
-      counts-bit-31 = λ count wrong is.
+      counts_bit_31 = λ count wrong is.
           let u = only (2 ^ 31) in
           let one : count u ≡ G.Types 1 = wrong u (omega arith) (omega arith) ∙ ap G.Types top_one in
           let none : count u ≡ G.Types 0 = is u ∙ (sym (count_only {u = u} (types (omega arith))) ∙ ap G.Types top_none) in

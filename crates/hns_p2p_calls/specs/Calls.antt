@@ -95,7 +95,7 @@ pub record CallsGoByTerms : Type 0 where
   -- what two sets of terms read alike, all calls answer alike
   pub one_reading : (u u' : Terms) (t : ℕ) (s : List ℕ) → read_under u t s ≡ read_under u' t s → calls_under u t s ≡ calls_under u' t s
   -- none depends on another role's mask, nor on bit 31 of its own
-  pub own_mask : (u u' : Terms) → Alike u u' → NoCallTells u u'
+  pub by_own_mask : (u u' : Terms) → Alike u u' → NoCallTells u u'
   -- bits that are granted to any role change no answer on a payload that was admitted without them
   pub granted_more : (u : Terms) (role bits t : ℕ) (s : List ℕ) → admitted u t (length s) ≡ C.Passed → calls_under (granting u role bits) t s ≡ calls_under u t s
   -- a claim that names no terms: all calls answer what document 01 says

@@ -82,7 +82,7 @@ writer_refuses r (W.fits a b) e = let z : ◌≡◌ {A = ℕ} 0 1 = cc in absurd
 pub refusals_are : (net : NetworkMagic) → RefusalsAre net
 refusals_are net =
     record {
-      of-front = λ xs r e. front_refuses (rw e at (seen net xs));
-      of-exact = λ xs r e. exact_refuses (rw e at (exact_seen net xs));
-      of-writer = λ f o r e. writer_refuses r (writes net f o) e;
+      of_front = λ xs r e. front_refuses (rw e at (seen net xs));
+      of_exact = λ xs r e. exact_refuses (rw e at (exact_seen net xs));
+      of_writer = λ f o r e. writer_refuses r (writes net f o) e;
     }

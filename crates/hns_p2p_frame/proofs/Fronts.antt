@@ -130,6 +130,6 @@ front_cut net xs h f rest e = go (rw e at (seen net xs))
         let q : part xs 5 4 ++ drop 9 xs ≡ drop 5 xs = rw (← drop-drop 4 5 xs) (take-append-drop 4 (drop 5 xs)) in
         record {
           all = simp append_assoc (rw (v, w, p, q, ← drop-cons xs 4 0 (omega arith), ← b) (take-append-drop 4 xs));
-          well_formed = record { type-byte = byte_below xs h 4 (omega arith); payload-bytes = bytes_take n (bytes_drop 9 h); within = rw v c };
+          well_formed = record { type_byte = byte_below xs h 4 (omega arith); payload_bytes = bytes_take n (bytes_drop 9 h); within = rw v c };
           rest_bytes = bytes_drop (9 + n) h;
         }

@@ -123,7 +123,7 @@ module _ (net : NetworkMagic) where
       by_walk (λ (xs : List ℕ) (w : Walked). Bytes xs → WalkCut xs w)
       (λ xs e h. (refl, tt))
       (λ xs r e h. tt)
-      (λ xs f rest w e ih h. let k = front_cut net xs h f rest e in go xs f rest w k.all k.well_formed (ih k.rest-bytes))
+      (λ xs f rest w e ih h. let k = front_cut net xs h f rest e in go xs f rest w k.all k.well_formed (ih k.rest_bytes))
     where
       go : (xs : List ℕ) (f : Frame) (rest : List ℕ) (w : Walked) → encoding net f ++ rest ≡ xs → WellFormed f → WalkCut rest w → WalkCut xs (also f w)
       go xs f rest (stopped fs end) a b c = (rw (append_assoc, c.0) a, (b, c.1))

@@ -69,11 +69,11 @@ two_reads = refl
 pub trials_fail : TrialsFail
 trials_fail =
     record {
-      one-packet = λ read one is.
+      one_packet = λ read one is.
           let same : P.Ping 0 ≡ P.Ping 1 = sym ping ∙ (sym (ap packet (is 2 (replicate 8 0) [])) ∙ (one 2 (replicate 8 0) (1 ∷ replicate 7 0) [] ∙ (ap packet (is 2 (1 ∷ replicate 7 0) []) ∙ other_ping))) in
           let z : ◌≡◌ {A = ℕ} 0 1 = cc same in
           absurd (omega arith);
-      refuses-all = λ read refuses is.
+      not_refuses_all = λ read refuses is.
           let r = refuses 2 (replicate 8 0) [] in
           let same : P.Ping 0 ≡ P.Refused r.0 = sym ping ∙ (sym (ap packet (is 2 (replicate 8 0) [])) ∙ r.1) in
           let z : ◌≡◌ {A = ℕ} 0 1 = cc same in
@@ -82,13 +82,13 @@ trials_fail =
           let same : ◌≡◌ {A = List ℕ} (97 ∷ []) (0 ∷ []) = sym reason ∙ (sym (ap (λ (a : Answer). a.text) (is 15 (0 ∷ 0 ∷ 1 ∷ 97 ∷ []) (0 ∷ []))) ∙ none 15 (0 ∷ 0 ∷ 1 ∷ 97 ∷ []) (0 ∷ [])) in
           let z : ◌≡◌ {A = ℕ} 97 0 = cc same in
           absurd (omega arith);
-      items-first = λ read first is.
+      items_first = λ read first is.
           let r = first too_many [] 1001 3 (omega arith) too_many_count (omega arith) in
           let same : P.Refused (over_limit 1001 max_addresses address_field) ≡ P.Refused (unexpected_end r.0 r.1) = sym too_many_refused ∙ (sym (ap packet (is 5 too_many [])) ∙ r.2) in
           let refusals : over_limit 1001 max_addresses address_field ≡ unexpected_end r.0 r.1 = cc same in
           let z : ◌≡◌ {A = ℕ} 7 1 = ap (λ (r : Refusal). r.number) refusals in
           absurd (omega arith);
-      nonzero-is-true = λ read nonzero is.
+      nonzero_is_true = λ read nonzero is.
           let same : ◌≡◌ {A = Bool} false true = nonzero (replicate 121 0) [] 2 two (omega arith) (ap packet (is 0 (replicate 121 0 ++ (2 ∷ [])) []) ∙ two_reads) in
           let z : ◌≡◌ {A = ℕ} 0 1 = cc same in
           absurd (omega arith);

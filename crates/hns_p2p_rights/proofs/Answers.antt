@@ -26,7 +26,7 @@ module _ (u : Terms) {role : ℕ} (e : role ≡ u.role) where
     own = m ∙ ap (λ (k : ℕ). get_or u.masks k 0) e
 
     pub sends : (t : ℕ) → {b : Bool} → b ≡ granted mask t → b ≡ true → C.Passed ≡ may_send u t
-    sends t g y = sending_only (if_may_send (record { a-role = rw e at h; a-grant = ap (λ (k : ℕ). granted k t) (sym own) ∙ (sym g ∙ y) }))
+    sends t g y = sending_only (if_may_send (record { a_role = rw e at h; a_grant = ap (λ (k : ℕ). granted k t) (sym own) ∙ (sym g ∙ y) }))
 
     pub sends_not : (t : ℕ) → {b : Bool} → b ≡ granted mask t → b ≡ false → {r : Refusal} → r ≡ not_granted → C.Refused r ≡ may_send u t
     sends_not t g y q = ap C.Refused q ∙ sending_only (if_not_granted (rw e at h) (ap (λ (k : ℕ). granted k t) (sym own) ∙ (sym g ∙ y)))

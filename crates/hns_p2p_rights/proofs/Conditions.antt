@@ -18,7 +18,7 @@ unfolding may_send
 sending_is u t =
     choose_holds (SendingIs u t) (ltb u.role 8)
     (λ e. let h = ltb-true u.role 8 e in
-    choose_holds (SendingIs u t) (granted (own_mask u) t) (λ g. if_may_send (record { a-role = h; a-grant = g })) (λ g. if_not_granted h g))
+    choose_holds (SendingIs u t) (granted (own_mask u) t) (λ g. if_may_send (record { a_role = h; a_grant = g })) (λ g. if_not_granted h g))
     (λ e. if_no_role (ltb-false u.role 8 e))
 
 -- and no other answer does

@@ -12,7 +12,7 @@ use lib.Bits.{bit_or, or_shr, or_mod}
 use lib.Count.{ones, ones_cat, ones-ones}
 use lib.Pow.{mod-pow-add, pow_pos, field, mod-mod-pow}
 use lib.Dec.{ltb, leb, eqb}
-use borrow.Author.Tests.{lt-ltb, le-ltb, eqb-true, eq_eqb}
+use borrow.Author.Tests.{lt-ltb, le-ltb, eqb-true, eq-eqb}
 use Rattle.hns_encoding.specs.Bytes.{choose}
 use Rattle.hns_encoding.proofs.Numbers.{lt_or_ge}
 use Rattle.hns_refusals.specs.Refusals.{no_role, not_granted}
@@ -126,7 +126,7 @@ bit_or_lem : (a b k : ℕ) → bit a k ≡ true → bit (bit_or a b) k ≡ true
 unfolding bit
 bit_or_lem a b k h =
     let e : a / 2 ^ k % 2 ≡ 1 = eqb-true _ _ h in
-    eq_eqb (bit_or a b / 2 ^ k % 2) 1
+    eq-eqb (bit_or a b / 2 ^ k % 2) 1
     (ap (λ (x : ℕ). x % 2) (or_shr a b k) ∙ (or_mod (a / 2 ^ k) (b / 2 ^ k) 1 ∙ (ap (λ (x : ℕ). bit_or x (b / 2 ^ k % 2)) e ∙ or_one (b / 2 ^ k % 2) (omega arith))))
 
 allowed : (a b : Bool) → choose a (choose b C.Passed (C.Refused not_granted)) (C.Refused no_role) ≡ C.Passed → (a ≡ true) × (b ≡ true)
@@ -202,5 +202,5 @@ full =
     record {
       sending = λ u f t. rw (lt-ltb u.role 8 f.a_role, all_granted (own_mask u) f.all t ∙ full_granted t);
       counting = λ u f. rw (lt-ltb u.role 8 f.a_role, same_count 31 (granted (own_mask u)) (granted full_mask) (λ k h. all_granted (own_mask u) f.all k) ∙ full_types);
-      no-numbers = record { a-role = omega arith; all = refl };
+      no_numbers = record { a_role = omega arith; all = refl };
     }

@@ -46,7 +46,7 @@ module _ (net : NetworkMagic) where
       (λ xs r e b. rw (cut_bad net xs r e) (record { all = refl; well_formed = tt; end = e }))
       (λ xs f rest e ih b.
       let k = front_cut net xs b f rest e in
-      let c = ih k.rest-bytes in
+      let c = ih k.rest_bytes in
       rw (cut_frame net xs f rest e) (record { all = rw (append_assoc, c.all) k.all; well_formed = (k.well_formed, c.well_formed); end = c.end }))
 
   -- the other way: frames and then such a rest walk so

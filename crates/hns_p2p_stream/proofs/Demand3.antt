@@ -210,13 +210,13 @@ demand_3 net s cs b =
     let f : ¬ AnyHeaderRefused es → front net (held_after s es) ≡ not_yet = λ q. open_kept net cs s 0 g b (front_is (few (omega arith))) q in
     let c : ¬ AnyHeaderRefused es → count_after 0 es ≤ most_held = λ q. subst (λ (n : ℕ). n ≤ most_held) (length-take-le (count_after 0 es) (store_after s es) k.0.fits) (front_few_held net (held_after s es) (f q)) in
     record {
-      frames-delivered = (d.0, d.1);
+      frames_delivered = (d.0, d.1);
       one_list = one_delivered net cs s 0 g b;
-      all-bytes = bytes_kept net cs s 0 g b;
-      no-frame-held = λ q. front_none net (held_after s es) (f q);
-      few-held = λ q. front_few_held net (held_after s es) (f q);
-      next-taken = λ q x o l m n. next_push net (store_after s es) (count_after 0 es) x o (omega (arith, c q)) (omega (arith, k.1)) n;
-      then-none = λ before later e q. quiet_none net later (then_quiet net cs s 0 g b before later e q);
+      all_bytes = bytes_kept net cs s 0 g b;
+      no_frame_held = λ q. front_none net (held_after s es) (f q);
+      few_held = λ q. front_few_held net (held_after s es) (f q);
+      next_taken = λ q x o l m n. next_push net (store_after s es) (count_after 0 es) x o (omega (arith, c q)) (omega (arith, k.1)) n;
+      then_none = λ before later e q. quiet_none net later (then_quiet net cs s 0 g b before later e q);
     }
 
 pub stream_kept : StreamKept
@@ -225,7 +225,7 @@ stream_kept net s cs b =
     let d = some_delivered net cs s 0 g b in
     let k = long_kept net cs s 0 g b in
     record {
-      well-formed = λ fs e. subst (All WellFormed) (one_delivered net cs s 0 g b d.0 fs d.1 e) d.2;
+      well_formed = λ fs e. subst (All WellFormed) (one_delivered net cs s 0 g b d.0 fs d.1 e) d.2;
       same_length = k.1;
-      held-there = k.0.fits;
+      held_there = k.0.fits;
     }

@@ -55,7 +55,7 @@ laid net f rest h = go net
 pub front_encoding : (net : NetworkMagic) (f : Frame) (rest : List ℕ) → length f.payload ≤ max_payload → front net (encoding net f ++ rest) ≡ whole f rest
 front_encoding net f rest h =
     let l = laid net f rest (omega arith) in
-    front_is (full (omega (arith, l.size)) l.magic-first (omega (arith, l.says)) (omega (arith, l.says, l.size))) ∙ rw (l.reads, l.says, l.then)
+    front_is (full (omega (arith, l.size)) l.magic_first (omega (arith, l.says)) (omega (arith, l.says, l.size))) ∙ rw (l.reads, l.says, l.then)
 
 -- an encoding determines its frame, and where it ends
 pub encoding_one : (net : NetworkMagic) (f g : Frame) (xs ys : List ℕ) → length f.payload < 2 ^ 32 → length g.payload < 2 ^ 32

@@ -105,7 +105,7 @@ module _ {net : NetworkMagic} {s : List ℕ} {h : ℕ} {x o : List ℕ} where
   step_good (header r s' t w e l k) g b = record { fits = l; bytes = rw e (bytes_append g.bytes b) }
   step_good (taken fs rest s' o' a) g b =
       record {
-        fits = omega (arith, a.rest-fits, a.same_length);
+        fits = omega (arith, a.rest_fits, a.same_length);
         bytes = rw (a.held, ← drop-append_seam (encodings net fs) rest, a.cut) (bytes_drop (length (encodings net fs)) (bytes_append g.bytes b));
       }
 

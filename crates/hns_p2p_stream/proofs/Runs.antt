@@ -116,7 +116,7 @@ module _ {T : Type 0} {net : NetworkMagic} where
         all_bytes = λ r. (kept a g r).all_bytes;
         well_formed = λ r. (kept a g r).well_formed;
         same_length = λ r. (kept a g r).same_length;
-        held-there = λ r. (kept a g r).good.fits;
+        held_there = λ r. (kept a g r).good.fits;
       }
 
 -- ---- steps
@@ -146,6 +146,6 @@ ported_step z t g (taken fs rest s' o' a) =
       well_formed = a.well_formed;
       few = a.limit;
       bytes = rw a.held (sym a.cut);
-      fits = omega (arith, a.rest-fits, a.same_length);
+      fits = omega (arith, a.rest_fits, a.same_length);
       same_length = a.same_length;
     }

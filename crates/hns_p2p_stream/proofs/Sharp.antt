@@ -31,14 +31,14 @@ record HeaderOf (net : NetworkMagic) (xs : List ℕ) : Type 0 where
   nine : length xs ≡ 9
   magic_good : take 4 xs ≡ magic net
   says : payload_length xs ≡ max_payload
-  are_bytes_lem : T (are_bytes xs)
+  bytes_are : T (are_bytes xs)
 
 header_is : (net : NetworkMagic) → HeaderOf net (header net)
 unfolding header magic le_bytes payload_length le
-header_is Mainnet = record { nine = refl; magic_good = refl; says = refl; are_bytes_lem = tt }
-header_is Testnet = record { nine = refl; magic_good = refl; says = refl; are_bytes_lem = tt }
-header_is Regtest = record { nine = refl; magic_good = refl; says = refl; are_bytes_lem = tt }
-header_is Simnet = record { nine = refl; magic_good = refl; says = refl; are_bytes_lem = tt }
+header_is Mainnet = record { nine = refl; magic_good = refl; says = refl; bytes_are = tt }
+header_is Testnet = record { nine = refl; magic_good = refl; says = refl; bytes_are = tt }
+header_is Regtest = record { nine = refl; magic_good = refl; says = refl; bytes_are = tt }
+header_is Simnet = record { nine = refl; magic_good = refl; says = refl; bytes_are = tt }
 
 same_answer : {p q : Result} → p ≡ q → p.answer ≡ q.answer
 same_answer e = ap (λ (p : Result). p.answer) e
@@ -54,7 +54,7 @@ module _ (net : NetworkMagic) (z : List ℕ) (b : Bytes z) (n : length z ≡ 799
 
   bytes : Bytes one_short
   unfolding one_short
-  bytes = bytes_append (bytes_tested (header net) (header_is net).are-bytes) b
+  bytes = bytes_append (bytes_tested (header net) (header_is net).bytes_are) b
 
   waits : FrontIs net one_short not_yet
   unfolding one_short
@@ -67,7 +67,7 @@ module _ (net : NetworkMagic) (z : List ℕ) (b : Bytes z) (n : length z ≡ 799
   answered : (s o : List ℕ) → most_held ≤ length s → most_held ≤ length o → (push net s 0 one_short o).answer ≡ Accepted 0 0 most_held
   unfolding encodings
   answered s o l m =
-      let w = (push_exactly net s 0 one_short o none bytes _).1 (accepted (record { held = omega arith; stream = omega (arith, size); store = omega (arith, size); output = omega (arith, size) }) [] one_short (record { all = refl; well-formed = tt }) waits) in
+      let w = (push_exactly net s 0 one_short o none bytes _).1 (accepted (record { held = omega arith; stream = omega (arith, size); store = omega (arith, size); output = omega (arith, size) }) [] one_short (record { all = refl; well_formed = tt }) waits) in
       same_answer w ∙ rw size
 
   is_sharp : Sharp net
@@ -77,9 +77,9 @@ module _ (net : NetworkMagic) (z : List ℕ) (b : Bytes z) (n : length z ≡ 799
         input = one_short;
         bytes = bytes;
         held = λ s o l m. rw (answered s o l m) (⊎_elim (λ q. q) (λ q. q), refl);
-        more-input = λ s x o l k. same_answer (push_is net (large (omega arith) (omega arith))) ∙ rw k;
-        less-store = λ s x o l k. same_answer (push_is net (unstored (omega arith) (omega arith) (omega arith))) ∙ rw k;
-        less-output = λ s x o l k m. same_answer (push_is net (no_room (omega arith) (omega arith) (omega arith) (omega arith))) ∙ rw k;
+        more_input = λ s x o l k. same_answer (push_is net (large (omega arith) (omega arith))) ∙ rw k;
+        less_store = λ s x o l k. same_answer (push_is net (unstored (omega arith) (omega arith) (omega arith))) ∙ rw k;
+        less_output = λ s x o l k m. same_answer (push_is net (no_room (omega arith) (omega arith) (omega arith) (omega arith))) ∙ rw k;
       }
 
 pub sharp : (net : NetworkMagic) → Sharp net

@@ -60,7 +60,7 @@ verack = record { packet_type = 1; payload = [] }
 
 begins : (rest : List ℕ) → BeginsWithFrame Mainnet (encoding Mainnet verack ++ rest)
 unfolding le le_bytes magic encoding payload_length
-begins rest = record { header = omega arith; magic-good = refl; length-good = omega arith; payload-there = omega arith }
+begins rest = record { header = omega arith; magic_good = refl; length_good = omega arith; payload_there = omega arith }
 
 abbrev two : List ℕ
 two = encodings Mainnet (verack ∷ verack ∷ [])
@@ -110,19 +110,19 @@ unfolding le le_bytes splice magic encoding encodings same payload_length front 
 trials =
     record {
       -- the second frame is held
-      first-frame-only = λ d. (one_push hands_out_first d two tt).no_frame_held (λ q. q) (begins []);
+      first_frame_only = λ d. (one_push hands_out_first d two tt).no_frame_held (λ q. q) (begins []);
       -- both are
-      none-handed-out = λ d. (one_push hands_out_none d two tt).no_frame_held (λ q. q) (begins (encoding Mainnet verack));
+      none_handed_out = λ d. (one_push hands_out_none d two tt).no_frame_held (λ q. q) (begins (encoding Mainnet verack));
       -- 18 bytes received, none delivered or held
       nothing_stored = λ d. omega (arith, ap length ((one_push stores_nothing d two tt).all_bytes [] (refl, refl, omega arith)));
       -- 3 frames in 18 bytes
-      count-wrong = λ d. let q = (one_push miscounts d two tt).delivered in omega (arith, q.1.0, ap length q.1.1, encodings_long Mainnet q.0);
-      handed-out-before = handed_out;
+      count_wrong = λ d. let q = (one_push miscounts d two tt).delivered in omega (arith, q.1.0, ap length q.1.1, encodings_long Mainnet q.0);
+      handed_out_before = handed_out;
       -- 18 bytes received, 9 delivered and 18 held
-      handed-out-and-held = λ d. omega (arith, ap length ((one_push hands_out_and_holds d (encoding Mainnet verack ++ wrong_magic) tt).all_bytes (verack ∷ []) (refl, refl, omega arith)));
+      handed_out_and_held = λ d. omega (arith, ap length ((one_push hands_out_and_holds d (encoding Mainnet verack ++ wrong_magic) tt).all_bytes (verack ∷ []) (refl, refl, omega arith)));
       -- 18 bytes received, none delivered and 9 held
       drained = λ d. omega (arith, ap length ((one_push drains d (encoding Mainnet verack ++ wrong_magic) tt).all_bytes [] refl));
       -- 9 bytes received, none delivered or held
       forgotten = λ d. omega (arith, ap length ((one_push forgets d wrong_magic tt).all_bytes [] refl));
-      delivered-later = later_delivered;
+      delivered_later = later_delivered;
     }

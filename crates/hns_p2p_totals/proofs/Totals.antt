@@ -96,8 +96,8 @@ module _ {net : NetworkMagic} {s t : List ℕ} (y : Summed t) {cs : List (Call (
         frames = x.frames;
         bytes = x.bytes;
         summed = exact_summed y x holds.well_formed;
-        frame-total = x.frame_total_is;
-        byte-total = omega (arith, x.byte_total_is, all, sizes_are net w.frames, length-take-le z.count z.store holds.good.fits);
+        frame_total_is = x.frame_total_is;
+        byte_total_is = omega (arith, x.byte_total_is, all, sizes_are net w.frames, length-take-le z.count z.store holds.good.fits);
       }
 
 -- ---- a next push

@@ -90,27 +90,27 @@ tally_trials =
     let s = zeros_summed tally_size in
     record {
       -- 9 bytes received, none counted or held
-      nothing-counted = λ d. let e : ◌≡◌ {A = ℕ} 0 9 = (one counts_none d zeros input s tt).byte_total_is in omega arith;
-      payloads-counted = λ d. let e : ◌≡◌ {A = ℕ} 0 9 = (one counts_payloads d zeros input s tt).byte_total_is in omega arith;
+      nothing_counted = λ d. let e : ◌≡◌ {A = ℕ} 0 9 = (one counts_none d zeros input s tt).byte_total_is in omega arith;
+      payloads_counted = λ d. let e : ◌≡◌ {A = ℕ} 0 9 = (one counts_payloads d zeros input s tt).byte_total_is in omega arith;
       -- 18 counted
-      counted-twice = λ d. let e : ◌≡◌ {A = ℕ} 18 9 = (one counts_twice d zeros input s tt).byte_total_is in omega arith;
-      totals-forgotten = λ d. let e : ◌≡◌ {A = ℕ} 0 9 = (one forgets_totals d zeros input s tt).byte_total_is in omega arith;
+      counted_twice = λ d. let e : ◌≡◌ {A = ℕ} 18 9 = (one counts_twice d zeros input s tt).byte_total_is in omega arith;
+      totals_forgotten = λ d. let e : ◌≡◌ {A = ℕ} 0 9 = (one forgets_totals d zeros input s tt).byte_total_is in omega arith;
       -- one of type 1 delivered, none counted
-      another-type = λ d.
+      another_type = λ d.
           let q = one next_type d zeros input s tt in
           let same : q.fs ≡ verack ∷ [] = encodings_one Mainnet q.fs (verack ∷ []) (omega (arith, ap length q.hands.1)) q.hands.0 q.hands.1 in
           let e : ◌≡◌ {A = ℕ} 0 (0 + frames_of 1 (q.fs ++ [])) = q.frames 1 (omega arith) in
           let f : ◌≡◌ {A = ℕ} 0 1 = e ∙ ap (λ (l : List Frame). 0 + frames_of 1 (l ++ [])) same in
           omega arith;
       -- 18 bytes held, and 9 of them counted
-      counted-before = λ d. let e : ◌≡◌ {A = ℕ} 27 18 = (one counts_before d zeros bad s tt).byte_total_is in omega arith;
+      counted_before = λ d. let e : ◌≡◌ {A = ℕ} 27 18 = (one counts_before d zeros bad s tt).byte_total_is in omega arith;
       -- of 18 bytes received the last 9 are counted
-      begun-anew = λ d. let e : ◌≡◌ {A = ℕ} 9 18 = two begins_anew d tt in omega arith;
+      begun_anew = λ d. let e : ◌≡◌ {A = ℕ} 9 18 = two begins_anew d tt in omega arith;
       -- an empty push fits
-      all-refused = λ d.
+      all_refused = λ d.
           (d Mainnet room zeros s [] tt).next_taken lists.none [] room (record { held = omega arith; stream = omega arith; store = omega arith; output = omega arith }) (record { size = omega arith; frames = omega arith; bytes = omega arith });
       -- 9 bytes are held that were not received
-      stored-at-full = λ d. let e : ◌≡◌ {A = ℕ} 9223372036854775816 9223372036854775807 = (one stores_at_full d full input full_summed tt).byte_total_is in omega arith;
+      stored_at_full = λ d. let e : ◌≡◌ {A = ℕ} 9223372036854775816 9223372036854775807 = (one stores_at_full d full input full_summed tt).byte_total_is in omega arith;
     }
 
 -- ---- wrong in one answer
@@ -126,10 +126,10 @@ unfolding le le_bytes splice advance magic encoding encodings same payload_lengt
 answer_trials =
     record {
       -- 9 bytes are counted
-      none-handed-out = λ d. let e : ◌≡◌ {A = ℕ} 9 0 = ap (λ (p : Result). get_or p.tally byte_total 0) (is_tallying hands_out_none d zeros input tt) in omega arith;
-      four-answered = λ d. let e : ◌≡◌ {A = ℕ} 9 0 = ap (λ (p : Result). get_or p.tally byte_total 0) (is_tallying answers_four d zeros input tt) in omega arith;
+      none_handed_out = λ d. let e : ◌≡◌ {A = ℕ} 9 0 = ap (λ (p : Result). get_or p.tally byte_total 0) (is_tallying hands_out_none d zeros input tt) in omega arith;
+      four_answered = λ d. let e : ◌≡◌ {A = ℕ} 9 0 = ap (λ (p : Result). get_or p.tally byte_total 0) (is_tallying answers_four d zeros input tt) in omega arith;
       -- the output's first byte stays
-      written-at-full = λ d. let e : ◌≡◌ {A = ℕ} 0 211 = ap (λ (p : Result). get_or p.output 0 0) (is_tallying writes_at_full d full input tt) in omega arith;
+      written_at_full = λ d. let e : ◌≡◌ {A = ℕ} 0 211 = ap (λ (p : Result). get_or p.output 0 0) (is_tallying writes_at_full d full input tt) in omega arith;
       -- and so does the total
-      never-full = λ d. let e : ◌≡◌ {A = ℕ} 9223372036854775807 9223372036854775816 = ap (λ (p : Result). get_or p.tally byte_total 0) (is_tallying never_full d full input tt) in omega arith;
+      not_never_full = λ d. let e : ◌≡◌ {A = ℕ} 9223372036854775807 9223372036854775816 = ap (λ (p : Result). get_or p.tally byte_total 0) (is_tallying never_full d full input tt) in omega arith;
     }

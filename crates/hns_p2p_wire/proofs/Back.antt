@@ -66,7 +66,7 @@ filled tests x o e =
 reads_back : WriterReadsBack
 reads_back f v fit tests o o' n e =
     let w = filled tests (write f v) o e in
-    rw (w.front, w.many, front_is (write f v) o w.room-there) (to_end_back (read f) (write f v) (back f v fit))
+    rw (w.front, w.many, front_is (write f v) o w.room_there) (to_end_back (read f) (write f v) (back f v fit))
 
 -- ---- what the tests pass
 
@@ -104,7 +104,7 @@ tested =
       feefilter = bits_fit;
       sendcmpct = λ mode v a b. (omega arith, b);
       getproof = λ root key a b. (a, b);
-      raw-bytes = λ s. refl;
+      raw_bytes_fit = λ s. refl;
     }
 
 rate_back : RateBack
@@ -127,10 +127,10 @@ same_value f w fit v last e = let b = to_end_back (read f) (write f w) (back f w
 services : Services
 services =
     record {
-      of-version = λ f agent fit v last e. low_bits f.services v.1.0 (ap (λ (w : Value version). w.1.0) (same_value version (version_of f agent) fit v last e));
-      of-remote = λ f agent fit v last e. low_bits f.remote.services v.1.1.1.1.0.1.0 (ap (λ (w : Value version). w.1.1.1.1.0.1.0) (same_value version (version_of f agent) fit v last e));
-      of-address = λ a fit v last e. low_bits a.services v.1.0 (ap (λ (w : Value address). w.1.0) (same_value address (address_of a) fit v last e));
-      of-item = λ x fit v last e. low_bits x.1.0 v.1.0 (ap (λ (w : Value address). w.1.0) (same_value address (low_services x) fit v last e));
+      of_version = λ f agent fit v last e. low_bits f.services v.1.0 (ap (λ (w : Value version). w.1.0) (same_value version (version_of f agent) fit v last e));
+      of_remote = λ f agent fit v last e. low_bits f.remote.services v.1.1.1.1.0.1.0 (ap (λ (w : Value version). w.1.1.1.1.0.1.0) (same_value version (version_of f agent) fit v last e));
+      of_address = λ a fit v last e. low_bits a.services v.1.0 (ap (λ (w : Value address). w.1.0) (same_value address (address_of a) fit v last e));
+      of_item = λ x fit v last e. low_bits x.1.0 v.1.0 (ap (λ (w : Value address). w.1.0) (same_value address (low_services x) fit v last e));
     }
 
 pub written_back : WrittenBack

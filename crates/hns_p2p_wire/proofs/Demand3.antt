@@ -293,5 +293,5 @@ demand_3_whole =
       one_call = one_call;
       not_kept = not_kept;
       answers = same_answer;
-      under-terms = again_under;
+      under_terms = again_under;
     }

@@ -39,8 +39,8 @@ pub plan_lengths : PlanLengths
 plan_lengths =
     record {
       addr = length_addr;
-      inventory-items = length_inventory;
-      headers-whole = length_headers;
+      inventory_items = length_inventory;
+      headers_whole = length_headers;
       hashes = λ s stop bs h. length_locator s bs stop h;
       indexes = length_indexes;
       agent = length_version;

@@ -79,7 +79,7 @@ unfolding encodings
 ends s h [] l g f z =
     let count : length (take h s) ≡ h = length-take-le h s g.fits in
     record {
-      agrees = record { held-agrees = λ n e. (take h s, append-nil (take h s), count ∙ held_one e, rw f at (seen Mainnet (take h s))); stop-agrees = λ r e. absurd (held_or_stop e); well-formed = tt };
+      agrees = record { held_agrees = λ n e. (take h s, append-nil (take h s), count ∙ held_one e, rw f at (seen Mainnet (take h s))); stop_agrees = λ r e. absurd (held_or_stop e); well_formed = tt };
       short = omega (arith, front_few_held Mainnet (take h s) f);
     }
 ends s h (b ∷ log) l g f z = absurd (omega arith)
@@ -94,9 +94,9 @@ goes_on : (fs : List Frame) {gs : List Frame} {log rest : List ℕ} {z : State} 
 goes_on fs {log = log} {rest} {z} {v} shown some p e w a =
     rw shown (record {
       agrees = record {
-        held-agrees = λ n l. let k = a.agrees.held_agrees n l in (k.0, joined k.0 k.1, k.2, k.3);
-        stop-agrees = λ r l. let k = a.agrees.stop_agrees r l in (k.0, joined k.0 k.1, led some p k.2);
-        well-formed = all_append fs v.frames w a.agrees.well_formed;
+        held_agrees = λ n l. let k = a.agrees.held_agrees n l in (k.0, joined k.0 k.1, k.2, k.3);
+        stop_agrees = λ r l. let k = a.agrees.stop_agrees r l in (k.0, joined k.0 k.1, led some p k.2);
+        well_formed = all_append fs v.frames w a.agrees.well_formed;
       };
       short = a.short;
     })
@@ -134,9 +134,9 @@ unfolding encodings
 stops s h o log r k e =
     record {
       agrees = record {
-        held-agrees = λ n l. absurd (held_or_stop (sym l));
-        stop-agrees = λ n l. (take h s ++ log, refl, record { last = _; leads = here; there = refl; refusal = r; refused = (k, e); number = stop_one l });
-        well-formed = tt;
+        held_agrees = λ n l. absurd (held_or_stop (sym l));
+        stop_agrees = λ n l. (take h s ++ log, refl, record { last = _; leads = here; there = refl; refusal = r; refused = (k, e); number = stop_one l });
+        well_formed = tt;
       };
       short = rw e at (push_numbered s h (take chunk_size log) o);
     }

@@ -41,7 +41,7 @@ returns c =
     let second = c.before.before in
     let first = second.before.before.before.before.before in
     let a = c.before.before.before.before.before.before.before.before.before.before.before.before.before.args in
-    let both = then c.before.before.before.before.before.before.before.before.before.before.before.before.before.well-formed.1.0.0 (from_start first.before.before.before.new.ensures first.put-bytes.ensures) second.put-bytes2.ensures in
+    let both = then c.before.before.before.before.before.before.before.before.before.before.before.before.before.well_formed.1.0.0 (from_start first.before.before.before.new.ensures first.put-bytes.ensures) second.put-bytes2.ensures in
     both.bytes ∙ ap (splice a.out.now 0) (two_runs a.block.now)
 
 pub put-hashes-spec : {M : Type 1} → statement M

@@ -100,7 +100,7 @@ record Known {M : Type 1} {𝓤 : Ura M} (𝓛 : Logic 𝓤) (𝓣 : Tables 𝓤
   of-plan : Triple 𝓤 (𝓣.C plan-def.name) (PlainCall (word ∷ word ∷ []) plan PlanStates 𝓛)
   of-accepted : Triple 𝓤 (𝓣.C accepted-def.name) (PlainCall (plan ∷ word ∷ []) word AcceptedStates 𝓛)
   of-count : Triple 𝓤 (𝓣.C count-def.name) (LentCall plan word encoder CountStates 𝓛)
-  of-item : Triple 𝓤 (𝓣.C item-def.name) (LentCall encoder item encoder ItemStates 𝓛)
+  of_item : Triple 𝓤 (𝓣.C item-def.name) (LentCall encoder item encoder ItemStates 𝓛)
   of-encoded : Triple 𝓤 (𝓣.C encoded-def.name) (PlainCall (plan ∷ []) encoded EncodedStates 𝓛)
 
 -- the function's own
@@ -240,7 +240,7 @@ module _ {M : Type 1} {𝓤 : Ura M} (𝓛 : Logic 𝓤) (κ κ' : Lft) (q q' : 
           assigns ! (of_opd ! (load ! (from ! (hop ! (look ! 10 refl) (stop !))) (look_raw ! 0 refl))) (from ! (stop !)) (init ! 8 refl (item.typed 𝓛 it (mach it) is)) $
           elem_back ! R t' items i none (mach it ∷ []) b o less $ shuts_slice ! tt R t' items b o $ move ! (1 ∷ []) $ drop ! $ move ! (2 ∷ 3 ∷ 1 ∷ 0 ∷ []) $
           -- [what out owns; κ''s token; what items owns; κ's token; the locals]
-          calls.calls-lent encoder item encoder ItemStates 𝓛 𝓣 κ' q' γ' b' o' (length out) ys t.4 e (cursor e) t.3 it (mach it) is known.of-item
+          calls.calls_lent encoder item encoder ItemStates 𝓛 𝓣 κ' q' γ' b' o' (length out) ys t.4 e (cursor e) t.3 it (mach it) is known.of_item
           (λ ν δ. and_then ! (load ! (from ! (stop !)) (look ! 24 refl)) (and_then ! (load ! (from ! (stop !)) (look ! 10 refl)) (and_then ! (load ! (from ! (stop !)) (look ! 4 refl)) (no_more !))))
           (λ w r zs put l rs.
           land ! (from ! (stop !)) (store ! 24 refl (encoder.typed 𝓛 r w rs)) $ rewrite ! 24 (λ (v : Val). ‵ (fat full_share encoder.ty l₆ 0 v)) (cursor-is r w rs) refl $
@@ -277,7 +277,7 @@ module _ {M : Type 1} {𝓤 : Ura M} (𝓛 : Logic 𝓤) (κ κ' : Lft) (q q' : 
         pass1 ! (init ! 30 refl (tt, (tt, (record { fits = room.0 }, tt)))) $ pass1 ! (init ! 28 refl (tt, (tt, (record { fits = room'.0 }, tt)))) $ pass0 ! $
         move ! (35 ∷ []) $ fsplit ! $ move ! (1 ∷ []) $ fsplit ! $ move ! (37 ∷ []) $ split ! $ move ! (1 ∷ []) $ split ! $ move ! (1 ∷ 4 ∷ []) $ drop ! $ drop ! $ move ! (3 ∷ 1 ∷ []) $
         -- [what items owns; κ's token; κ''s token; what out owns; the locals]
-        records.knows-all 𝓛 κ q γ b o items tt (λ all_whole. move ! (3 ∷ 2 ∷ []) $
+        records.knows_all 𝓛 κ q γ b o items tt (λ all_whole. move ! (3 ∷ 2 ∷ []) $
         -- [what out owns; κ''s token; what items owns; κ's token; the locals]
         assigns ! (of_opd ! (load ! (from ! (fld ! refl (stop !))) (look_in ! 34 (sub ! 1 refl (whole !))))) (from ! (stop !)) (init ! 30 refl (tt, record { fits = room.0 })) $
         assigns ! (of_opd ! (load ! (from ! (fld ! refl (stop !))) (look_in ! 32 (sub ! 1 refl (whole !))))) (from ! (stop !)) (init ! 20 refl (tt, record { fits = room'.0 })) $
@@ -291,7 +291,7 @@ module _ {M : Type 1} {𝓤 : Ura M} (𝓛 : Logic 𝓤) (κ κ' : Lft) (q q' : 
         assigns ! (addr ! (from ! (fld ! refl (hop ! (look_in ! 32 (sub ! 0 refl (whole !))) (stop !))))) (from ! (stop !)) (init ! 18 refl (tt, tt)) $
         assigns ! (agg ! (and_then ! (load ! (from ! (stop !)) (look ! 18 refl)) (and_then ! (load ! (from ! (fld ! refl (stop !))) (look_in ! 32 (sub ! 1 refl (whole !)))) (no_more !))))
         (from ! (stop !)) (init ! 16 refl (tt, (tt, (record { fits = room'.0 }, tt)))) $
-        calls.calls-lent plan word encoder CountStates 𝓛 𝓣 κ' q' γ' b' o' (length out) out refl p u is-plan n (vint w64 n) (refl, room.0) known.of-count
+        calls.calls_lent plan word encoder CountStates 𝓛 𝓣 κ' q' γ' b' o' (length out) out refl p u is-plan n (vint w64 n) (refl, room.0) known.of-count
         (λ ν δ. and_then ! (load ! (from ! (stop !)) (look ! 28 refl)) (and_then ! (load ! (from ! (stop !)) (look ! 16 refl)) (and_then ! (load ! (from ! (stop !)) (look ! 30 refl)) (no_more !))))
         (λ w e zs put l is.
         land ! (from ! (stop !)) (init ! 24 refl (encoder.typed 𝓛 e w is)) $ rewrite ! 24 (λ (v : Val). ‵ (fat full_share encoder.ty l₆ 0 v)) (cursor-is e w is) refl $
@@ -324,6 +324,6 @@ write-inventory-items-spec 𝓤 𝓛 𝓜 𝓡 =
       of-plan = cited 𝓤 𝓛.H (PlainCall (word ∷ word ∷ []) plan PlanStates 𝓛) 𝓜 𝓡 code.env plan-def.name plan-def.routine code.calls-hns-p2p-plans::plan-inventory (plan-thm.met 𝓤 𝓛 𝓜 𝓡);
       of-accepted = cited 𝓤 𝓛.H (PlainCall (plan ∷ word ∷ []) word AcceptedStates 𝓛) 𝓜 𝓡 code.env accepted-def.name accepted-def.routine code.calls-hns-p2p-inventory::accepted (accepted-thm.met 𝓤 𝓛 𝓜 𝓡);
       of-count = cited 𝓤 𝓛.H (LentCall plan word encoder CountStates 𝓛) 𝓜 𝓡 code.env count-def.name count-def.routine code.calls-hns-p2p-inventory::put-count (count-thm.met 𝓤 𝓛 𝓜 𝓡);
-      of-item = cited 𝓤 𝓛.H (LentCall encoder item encoder ItemStates 𝓛) 𝓜 𝓡 code.env item-def.name item-def.routine code.calls-hns-p2p-inventory::put-item (item-thm.met 𝓤 𝓛 𝓜 𝓡);
+      of_item = cited 𝓤 𝓛.H (LentCall encoder item encoder ItemStates 𝓛) 𝓜 𝓡 code.env item-def.name item-def.routine code.calls-hns-p2p-inventory::put-item (item-thm.met 𝓤 𝓛 𝓜 𝓡);
       of-encoded = cited 𝓤 𝓛.H (PlainCall (plan ∷ []) encoded EncodedStates 𝓛) 𝓜 𝓡 code.env encoded-def.name encoded-def.routine code.calls-hns-p2p-inventory::encoded (encoded-thm.met 𝓤 𝓛 𝓜 𝓡);
     }))

@@ -23,7 +23,7 @@ returns c =
     let c3 = c.before.before in
     let c2 = c3.before.before.before.before in
     let c1 = c2.before.before.before.before in
-    (c1.put-bytes.ensures ⨟ c2.put-decimal.ensures ⨟ (λ h. c3.put-u8.ensures)) c1.before.before.before.before.well-formed.1.0.0
+    (c1.put-bytes.ensures ⨟ c2.put-decimal.ensures ⨟ (λ h. c3.put-u8.ensures)) c1.before.before.before.before.well_formed.1.0.0
 
 pub put-last-spec : {M : Type 1} → statement M
 put-last-spec =

@@ -53,7 +53,7 @@ returns c =
     let c1 = c2.before.before.before.before in
     let start = c1.before.before.before.before.before in
     rw (← highest_first (length start.args.payload.now)) (
-    (c1.put-hex.ensures ⨟ c2.put-u8.ensures ⨟ c3.put-hex2.ensures ⨟ c4.put_payload.ensures ⨟ (λ h. c5.put-u82.ensures)) start.well-formed.1.0.0
+    (c1.put-hex.ensures ⨟ c2.put-u8.ensures ⨟ c3.put-hex2.ensures ⨟ c4.put_payload.ensures ⨟ (λ h. c5.put-u82.ensures)) start.well_formed.1.0.0
     )
 
 pub put-line-spec : {M : Type 1} → statement M

@@ -22,7 +22,7 @@ encode-to-requires c κs = search rules
 fit : (c : tie.After-out2) → Fit header (fields_of c.before.before.before.before.args.self)
 fit c =
     let h = c.before.before.before.before.args.self in
-    let g = c.before.before.before.before.well-formed.0.1.1 in (
+    let g = c.before.before.before.before.well_formed.0.1.1 in (
       omega arith,
       (
         omega arith,

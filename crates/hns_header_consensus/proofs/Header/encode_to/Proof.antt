@@ -63,7 +63,7 @@ returns c =
     ⨟ c9.put-u32-le2.ensures
     ⨟ c10.put-u32-le3.ensures
     ⨟ (λ h. c11.put-array326.ensures))
-    start.well-formed.1.1.0.0
+    start.well_formed.1.1.0.0
 
 same_length : tie.Need-same-length
 same_length c = put_length (returns c)
