@@ -1,5 +1,7 @@
-// Cases of test programs: a line of standard input is a case in hexadecimal. There are no functions as values, so a program
-// asks for one case after the other, and the loop over them is its own.
+//! Cases of test programs: a line of standard input is a case in hexadecimal. There are no functions as values, so a program
+//! asks for one case after the other, and the loop over them is its own.
+#![tactic(auto)]
+
 ghost use Rattle.std.specs.Prelude.{◌≡◌, ◌-◌, ◌<◌, ◌≤◌, length, drop};
 ghost use Rattle.hns_encoding.specs.Bytes.{number_at};
 ghost use Rattle.case_input.specs.Zeros.{Zeros, Around, Cleared};

@@ -1,4 +1,6 @@
-// What test programs print of an answer: words, numbers, bytes in hexadecimal, refusals, rows.
+//! What test programs print of an answer: words, numbers, bytes in hexadecimal, refusals, rows.
+#![tactic(auto)]
+
 use hns_encoder::Encoder;
 use hns_refusals::Refusal;
 

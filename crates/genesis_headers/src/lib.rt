@@ -1,4 +1,6 @@
-// The Rust's genesis_header of each network, for test programs.
+//! The Rust's genesis_header of each network, for test programs.
+#![tactic(auto)]
+
 ghost use Rattle.std.specs.Prelude.{◌≡◌};
 
 use hns_header_consensus::Header;

@@ -1,4 +1,6 @@
-// The Rust's Decoder: it refers to a payload and keeps a place in it. Each call takes it apart and hands slice and place to hns_encoding.
+//! The Rust's Decoder: it refers to a payload and keeps a place in it. Each call takes it apart and hands slice and place to hns_encoding.
+#![tactic(auto)]
+
 ghost use Rattle.std.specs.Prelude.{◌≡◌};
 ghost use Rattle.hns_encoding.specs.Bytes.{left, bytes_at, le_at, end_at, to_end};
 ghost use Rattle.hns_encoding.specs.Compact.{compact_at, count_at, varbytes_at};

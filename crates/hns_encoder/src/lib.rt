@@ -1,4 +1,6 @@
-// Puts by a cursor beside a lent output, and bytes at a place as arrays.
+//! Puts by a cursor beside a lent output, and bytes at a place as arrays.
+#![tactic(auto)]
+
 ghost use Rattle.std.specs.Prelude.{◌≡◌, ◌∷◌, [], ◌+◌, ◌≤◌, min, length};
 ghost use Rattle.std.proofs.Math.Seq.{paste};
 ghost use Rattle.hns_encoding.specs.Bytes.{le_bytes, left, raw_at};

@@ -1,4 +1,6 @@
-// Little-endian wire encoding: reads on a slice and a place.
+//! Little-endian wire encoding: reads on a slice and a place.
+#![tactic(auto)]
+
 ghost use Rattle.std.specs.Prelude.{◌≡◌, ◌+◌, ◌≤◌, ◌<◌, length, take};
 ghost use Rattle.hns_encoding.specs.Bytes.{choose, left, bytes_at, le_at, number_at, end_at};
 ghost use Rattle.hns_encoding.specs.Compact.{compact_from, compact_at, count_at, bounded_at, varbytes_at, sizes_at};

@@ -1,4 +1,6 @@
-// The port for callers in C and Rust: numbers and byte slices in, rows of six numbers out.
+//! The port for callers in C and Rust: numbers and byte slices in, rows of six numbers out.
+#![tactic(auto)]
+
 ghost use Rattle.std.specs.Prelude.{◌≡◌, ◌∷◌, [], length};
 ghost use Rattle.hns_encoding.specs.Bytes.{le_bytes, bytes_at, le_at, end_at};
 ghost use Rattle.hns_encoding.specs.Compact.{compact_at, compact_bytes, count_at, bounded_at, varbytes_at, varbytes, sizes_at};

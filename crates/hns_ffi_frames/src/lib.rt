@@ -1,4 +1,6 @@
-// Frames and the stream for callers in C and Rust, beside hns_ffi: numbers and byte slices in, rows of six numbers out.
+//! Frames and the stream for callers in C and Rust, beside hns_ffi: numbers and byte slices in, rows of six numbers out.
+#![tactic(auto)]
+
 ghost use Rattle.std.specs.Prelude.{◌≡◌};
 ghost use Rattle.hns_p2p_frame.specs.Frame.{front, decode_exact, write_frame};
 ghost use Rattle.hns_p2p_frame.specs.Push as Push;

@@ -1,5 +1,7 @@
-// Packets read, and rights by role, for callers in C and Rust: numbers and byte slices in, rows of numbers out. `terms` are
-// the numbers that a payload is read under (hns_p2p_rights).
+//! Packets read, and rights by role, for callers in C and Rust: numbers and byte slices in, rows of numbers out. `terms` are
+//! the numbers that a payload is read under (hns_p2p_rights).
+#![tactic(auto)]
+
 ghost use Rattle.std.specs.Prelude.{◌≡◌};
 ghost use Rattle.hns_encoding.specs.Bytes.{raw_at};
 ghost use Rattle.hns_p2p_rights.specs.Terms.{terms_of};

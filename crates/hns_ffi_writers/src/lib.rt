@@ -1,5 +1,7 @@
-// The packet writers for callers in C and Rust: numbers and byte slices in, the bytes into a lent output, and a row of six numbers out.
-// A hash or a key is the front of a slice, zeros where there are fewer bytes.
+//! The packet writers for callers in C and Rust: numbers and byte slices in, the bytes into a lent output, and a row of six numbers out.
+//! A hash or a key is the front of a slice, zeros where there are fewer bytes.
+#![tactic(auto)]
+
 ghost use Rattle.std.specs.Prelude.{◌≡◌};
 ghost use Rattle.hns_encoding.specs.Bytes.{raw_at};
 ghost use Rattle.hns_p2p_fields.specs.Fields.{version_fields_in};

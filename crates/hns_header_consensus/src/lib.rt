@@ -1,4 +1,6 @@
-// The 236 bytes of a Handshake header: decode, encode, and a header at a place of a longer slice.
+//! The 236 bytes of a Handshake header: decode, encode, and a header at a place of a longer slice.
+#![tactic(auto)]
+
 ghost use Rattle.std.specs.Prelude.{◌≡◌, length};
 ghost use Rattle.hns_encoding.specs.Bytes.{stop};
 ghost use Rattle.hns_encoding.specs.Format.{write, value_at};

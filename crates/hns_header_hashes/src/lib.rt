@@ -1,4 +1,6 @@
-// A header for callers in C and Rust: four numbers, and its hashes side by side (specs/Hashes.antt).
+//! A header for callers in C and Rust: four numbers, and its hashes side by side (specs/Hashes.antt).
+#![tactic(auto)]
+
 ghost use Rattle.std.specs.Prelude.{◌≡◌, length};
 ghost use Rattle.hns_encoding.specs.Put.{splice};
 ghost use Rattle.hns_encoding.specs.Format.{value_at};

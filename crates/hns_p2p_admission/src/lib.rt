@@ -1,4 +1,6 @@
-// The tests that are made before a field of a payload is read, once for all calls that read one as a packet.
+//! The tests that are made before a field of a payload is read, once for all calls that read one as a packet.
+#![tactic(auto)]
+
 ghost use Rattle.std.specs.Prelude.{◌≡◌};
 ghost use Rattle.hns_p2p_rights.specs.Terms.{terms_of};
 ghost use Rattle.hns_p2p_admission.specs.Admission.{admitted};

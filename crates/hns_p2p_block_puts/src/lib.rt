@@ -1,5 +1,7 @@
-// Puts of payloads of fixed fields and texts, by a cursor: each has the contract of one put, so that a payload can follow a
-// frame's header.
+//! Puts of payloads of fixed fields and texts, by a cursor: each has the contract of one put, so that a payload can follow a
+//! frame's header.
+#![tactic(auto)]
+
 ghost use Rattle.std.specs.Prelude.{◌≡◌, ◌∷◌, length, take};
 ghost use Rattle.hns_refusals.specs.Limits.{max_text};
 ghost use Rattle.hns_encoding.specs.Bytes.{choose};

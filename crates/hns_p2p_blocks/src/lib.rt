@@ -1,5 +1,7 @@
-// Fields of payloads without counts: each is one test of the length, and then numbers at known places. What is tested before
-// the fields is not tested here.
+//! Fields of payloads without counts: each is one test of the length, and then numbers at known places. What is tested before
+//! the fields is not tested here.
+#![tactic(auto)]
+
 ghost use Rattle.std.specs.Prelude.{◌≡◌, [], ◌∷◌};
 ghost use Rattle.hns_encoding.specs.Bytes.{choose, left, end_at};
 ghost use Rattle.hns_encoding.specs.Format.{sum, short};

@@ -1,4 +1,6 @@
-// Document 01, 'Length card': by type, the least and the greatest length of a payload that is accepted.
+//! Document 01, 'Length card': by type, the least and the greatest length of a payload that is accepted.
+#![tactic(auto)]
+
 ghost use Rattle.std.specs.Prelude.{◌≡◌};
 ghost use Rattle.hns_p2p_card.specs.Card.{card_row};
 

@@ -1,4 +1,6 @@
-// Index lists, passed without a store: differences from a place on, each index the one before, its difference and one more.
+//! Index lists, passed without a store: differences from a place on, each index the one before, its difference and one more.
+#![tactic(auto)]
+
 ghost use Rattle.std.specs.Prelude.{◌≡◌, ◌+◌, ◌-◌, ◌≤◌, length};
 ghost use Rattle.hns_refusals.specs.Limits.{max_index};
 ghost use Rattle.hns_encoding.specs.Format.{indexes_from};

@@ -1,4 +1,6 @@
-// What stands at the places of a packet, as the bytes and records that the writers take.
+//! What stands at the places of a packet, as the bytes and records that the writers take.
+#![tactic(auto)]
+
 ghost use Rattle.std.specs.Prelude.{◌≡◌, drop};
 ghost use Rattle.hns_encoding.specs.Bytes.{raw_at};
 ghost use Rattle.hns_p2p_fields.specs.Fields.{ip_in, address_fields_in, version_fields_in, present, hash_in};

@@ -1,4 +1,6 @@
-// Where a hash stands among the inventory items of a payload.
+//! Where a hash stands among the inventory items of a payload.
+#![tactic(auto)]
+
 ghost use Rattle.std.specs.Prelude.{◌≡◌, ◌+◌, ◌*◌, ◌≤◌, length};
 ghost use Rattle.hns_p2p_rights.specs.Terms.{terms_of};
 ghost use Rattle.hns_p2p_items.specs.Items.{listed_under};

@@ -1,4 +1,6 @@
-// Frames of a peer stream: reading one at the front of a slice, writing one, and the push that cuts a stream into frames.
+//! Frames of a peer stream: reading one at the front of a slice, writing one, and the push that cuts a stream into frames.
+#![tactic(auto)]
+
 ghost use Rattle.std.specs.Prelude.{◌≡◌, ◌++◌, ◌∷◌, ◌+◌, ◌-◌, ◌≤◌, length, take};
 ghost use Rattle.hns_encoding.specs.Bytes.{le, le_bytes, part};
 ghost use Rattle.hns_encoding.specs.Put.{splice, Put};

@@ -1,4 +1,6 @@
-// All indexes of a getblocktxn payload at once, for callers that would fetch them one by one.
+//! All indexes of a getblocktxn payload at once, for callers that would fetch them one by one.
+#![tactic(auto)]
+
 ghost use Rattle.std.specs.Prelude.{◌≡◌, ◌≤◌, length};
 ghost use Rattle.hns_refusals.specs.Limits.{max_index};
 ghost use Rattle.hns_refusals.specs.Refusals.{index_field};

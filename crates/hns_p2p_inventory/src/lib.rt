@@ -1,4 +1,6 @@
-// The writer of inv, getdata and notfound over a slice of records: what the flat writer does of the same items.
+//! The writer of inv, getdata and notfound over a slice of records: what the flat writer does of the same items.
+#![tactic(auto)]
+
 ghost use Rattle.std.specs.Prelude.{◌≡◌};
 ghost use Rattle.hns_encoding.specs.Compact.{compact_bytes};
 ghost use Rattle.hns_encoding.specs.Put.{Put};

@@ -1,5 +1,7 @@
-// The numbers of all addresses or inventory items of a payload at once, for callers to whom a call for each item costs more
-// than the item.
+//! The numbers of all addresses or inventory items of a payload at once, for callers to whom a call for each item costs more
+//! than the item.
+#![tactic(auto)]
+
 ghost use Rattle.std.specs.Prelude.{◌≡◌, true, false, ◌+◌, ◌*◌, ◌≤◌, length};
 ghost use Rattle.hns_refusals.specs.Limits.{max_payload};
 ghost use Rattle.hns_encoding.specs.Put.{splice};

@@ -1,4 +1,6 @@
-// Items of a payload: which list stands under its count, and an item of that list by its place.
+//! Items of a payload: which list stands under its count, and an item of that list by its place.
+#![tactic(auto)]
+
 ghost use Rattle.std.specs.Prelude.{◌≡◌, ◌≤◌};
 ghost use Rattle.hns_refusals.specs.Limits.{max_payload};
 ghost use Rattle.hns_p2p_rights.specs.Terms.{terms_of};

@@ -1,5 +1,7 @@
-// Puts of payloads with a count, by a cursor: each has the contract of one put. Bytes after the last whole item of a flat
-// list are not put.
+//! Puts of payloads with a count, by a cursor: each has the contract of one put. Bytes after the last whole item of a flat
+//! list are not put.
+#![tactic(auto)]
+
 ghost use Rattle.std.specs.Prelude.{◌≡◌, ◌++◌, map, ◌+◌, ◌-◌, ◌*◌, ◌/◌, ◌≤◌, min, length, take};
 ghost use Rattle.hns_encoding.specs.Bytes.{part};
 ghost use Rattle.hns_encoding.specs.Compact.{compact_bytes};

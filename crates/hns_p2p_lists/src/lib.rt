@@ -1,5 +1,7 @@
-// Fields of payloads that are lists: a count and items of one size are one multiplication; index lists are passed. What is
-// tested before the fields is not tested here.
+//! Fields of payloads that are lists: a count and items of one size are one multiplication; index lists are passed. What is
+//! tested before the fields is not tested here.
+#![tactic(auto)]
+
 ghost use Rattle.std.specs.Prelude.{◌≡◌, ◌*◌, ◌<◌, ◌^◌};
 ghost use Rattle.hns_encoding.specs.Format.{sum};
 ghost use Rattle.hns_p2p_types.specs.Packets.{fields_of};

@@ -1,4 +1,6 @@
-// Payloads of all 256 types, read as packets.
+//! Payloads of all 256 types, read as packets.
+#![tactic(auto)]
+
 ghost use Rattle.std.specs.Prelude.{◌≡◌, map, ◌+◌, ◌≤◌, length};
 ghost use Rattle.hns_encoding.specs.Bytes.{part};
 ghost use Rattle.hns_encoding.specs.Format.{low7};

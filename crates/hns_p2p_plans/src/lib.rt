@@ -1,4 +1,6 @@
-// What a writer tests before it stores a byte: how long the payload is to be, or the refusal.
+//! What a writer tests before it stores a byte: how long the payload is to be, or the refusal.
+#![tactic(auto)]
+
 ghost use Rattle.std.specs.Prelude.{◌≡◌, ◌+◌, ◌*◌, ◌≤◌, length};
 ghost use Rattle.hns_refusals.specs.Limits.{max_addresses, max_inventory, max_locator, max_headers};
 ghost use Rattle.hns_refusals.specs.Refusals.{address_field, inventory_field, locator_field, header_field, agent_field};

@@ -1,4 +1,6 @@
-// A payload that is read as a packet, and written again by the writer of its type, which is given what was read.
+//! A payload that is read as a packet, and written again by the writer of its type, which is given what was read.
+#![tactic(auto)]
+
 ghost use Rattle.std.specs.Prelude.{◌≡◌, ◌+◌, ◌*◌, ◌≤◌, length, take, drop};
 ghost use Rattle.hns_refusals.specs.Limits.{max_addresses};
 ghost use Rattle.hns_encoding.specs.Bytes.{raw_at};

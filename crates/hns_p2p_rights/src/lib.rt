@@ -1,9 +1,11 @@
-// Rights by role: whether a role may send a type of frame, which is asked before the payload is read, and how many types it
-// may send.
-//
-// `terms` are the numbers that a payload is read under. If there are none, nothing is named, and every type may be sent. Else
-// the first is the role of a peer, and the next eight are the masks of roles 0 to 7: bits 0 to 29 are the known types, bit 30
-// is every other type byte, and bits from 31 on are ignored. Fewer than nine numbers grant nothing.
+//! Rights by role: whether a role may send a type of frame, which is asked before the payload is read, and how many types it
+//! may send.
+//!
+//! `terms` are the numbers that a payload is read under. If there are none, nothing is named, and every type may be sent. Else
+//! the first is the role of a peer, and the next eight are the masks of roles 0 to 7: bits 0 to 29 are the known types, bit 30
+//! is every other type byte, and bits from 31 on are ignored. Fewer than nine numbers grant nothing.
+#![tactic(auto)]
+
 ghost use Rattle.std.specs.Prelude.{◌≡◌, ◌<◌, get_or};
 ghost use Rattle.hns_p2p_rights.specs.Terms.{terms_of};
 ghost use Rattle.hns_p2p_rights.specs.Rights.{granted, may_send, types_granted};

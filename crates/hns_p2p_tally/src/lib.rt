@@ -1,5 +1,7 @@
-// The push of T-01, which counts the frames that it delivers. A tally is a lent slice of numbers: for each type byte the
-// frames delivered (0 to 255) and their bytes, payload plus 9 (256 to 511), then the totals of both (512 and 513).
+//! The push of T-01, which counts the frames that it delivers. A tally is a lent slice of numbers: for each type byte the
+//! frames delivered (0 to 255) and their bytes, payload plus 9 (256 to 511), then the totals of both (512 and 513).
+#![tactic(auto)]
+
 ghost use Rattle.std.specs.Prelude.{◌≡◌, ◌+◌, ◌≤◌, ◌<◌, length};
 ghost use Rattle.hns_p2p_frame.specs.declared.Delivered.TheVariants as D;
 ghost use Rattle.hns_p2p_frame.specs.declared.Intake.TheVariants as In;

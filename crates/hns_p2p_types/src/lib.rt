@@ -1,4 +1,6 @@
-// The types of packets, and what a packet reads as: numbers, and places of the payload.
+//! The types of packets, and what a packet reads as: numbers, and places of the payload.
+#![tactic(auto)]
+
 ghost use Rattle.std.specs.Prelude.{◌≡◌};
 ghost use Rattle.hns_p2p_types.specs.Protocol.{carries_hash};
 ghost use Rattle.hns_p2p_types.specs.Packets.{signed_bits};

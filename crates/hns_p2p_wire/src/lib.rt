@@ -1,1 +1,2 @@
-// Demand 3 whole, and what is not kept: specs/ states it, proofs/ has the theorems.
+//! Demand 3 whole, and what is not kept: specs/ states it, proofs/ has the theorems.
+#![tactic(auto)]

@@ -1,4 +1,6 @@
-// Packet writers: a function for each type of payload. Each asks its plan first, so that a refusal writes nothing.
+//! Packet writers: a function for each type of payload. Each asks its plan first, so that a refusal writes nothing.
+#![tactic(auto)]
+
 ghost use Rattle.std.specs.Prelude.{◌≡◌};
 ghost use Rattle.hns_p2p_writer.specs.Writing.{exit};
 ghost use Rattle.hns_p2p_writer.specs.Writers.{gives_version, gives_empty, gives_nonce, gives_addr, gives_inventory, gives_locator, gives_headers, gives_reject, gives_fee_filter, gives_send_cmpct, gives_get_block_txn, gives_get_proof, gives_raw};

@@ -1,4 +1,6 @@
-// Answers about packets as rows of sixteen numbers, for callers in C and Rust.
+//! Answers about packets as rows of sixteen numbers, for callers in C and Rust.
+#![tactic(auto)]
+
 ghost use Rattle.std.specs.Prelude.{◌≡◌, ◌∷◌, [], ◌≤◌, length};
 ghost use Rattle.std.proofs.Math.Seq.{paste};
 ghost use Rattle.hns_p2p_types.specs.Packets.{address_numbers};

@@ -1,4 +1,6 @@
-// The table of refusals of documents 01 and 02: one type for the whole repository, and a constructor for each row that the code gives.
+//! The table of refusals of documents 01 and 02: one type for the whole repository, and a constructor for each row that the code gives.
+#![tactic(auto)]
+
 ghost use Rattle.std.specs.Prelude.{◌≡◌};
 ghost use Rattle.hns_refusals.specs.Refusals.{unexpected_end, not_shortest, trailing_bytes, magic_mismatch, payload_too_large, stream_too_large, over_limit, incomplete_frame, index_over, not_ascii, hash_presence, too_many_indexes, index_too_large, not_rising, header_length, output_short, store_short, held_over, no_item, tally_full, no_role, not_granted};
 

@@ -1,4 +1,6 @@
-// Answers as rows of six numbers, for callers in C and Rust.
+//! Answers as rows of six numbers, for callers in C and Rust.
+#![tactic(auto)]
+
 ghost use Rattle.std.specs.Prelude.{◌≡◌, ◌≤◌, length};
 ghost use Rattle.std.proofs.Math.Seq.{paste};
 ghost use Rattle.hns_rows.specs.Rows.{answered, network_of, refused_row, number_row, sizes_row, slice_row, finished_row, header_row, prefix_row, exact_row, encoded_row, pushed_row, delivered_row, checked_row, granted_row};

@@ -1,10 +1,12 @@
-// Packets read, items fetched, hashes found and indexes listed: a line of standard input is a case in hexadecimal, and
-// the file stdout has the answers of model.py, which was written from document 01.
-//
-// A case is what is asked, the packet type, a number of eight bytes, and the rest: the payload, after 32 bytes of a hash
-// where one is to be found. What is asked is 0 to 3. From 4 on the case is long: the same is asked, and the rest has zeros
-// that the line leaves out, so that a short line has a payload of megabytes. Two numbers of eight bytes come before its
-// bytes: how many of these stand before the zeros, and how many zeros there are.
+//! Packets read, items fetched, hashes found and indexes listed: a line of standard input is a case in hexadecimal, and
+//! the file stdout has the answers of model.py, which was written from document 01.
+//!
+//! A case is what is asked, the packet type, a number of eight bytes, and the rest: the payload, after 32 bytes of a hash
+//! where one is to be found. What is asked is 0 to 3. From 4 on the case is long: the same is asked, and the rest has zeros
+//! that the line leaves out, so that a short line has a payload of megabytes. Two numbers of eight bytes come before its
+//! bytes: how many of these stand before the zeros, and how many zeros there are.
+#![tactic(auto)]
+
 use case_lines::{field, hex, number, refused, signed, text};
 use hns_p2p_types::{
     Found, Hash, Item, Items, LocatorPacket, Packet, RejectPacket, Span, Stored, VersionPacket,

@@ -1,9 +1,11 @@
-// Payloads read and written again: a line of standard input is a case in hexadecimal, and the file stdout has the answers
-// of model.py, which was written from document 01.
-//
-// A case is the packet type, four numbers of four bytes, and bytes. The first number is the output's length. The others
-// say what payload the bytes stand for: so many of them, then a piece of so many, repeated so many times, then the rest.
-// So a short line has a payload of a thousand addresses, or of megabytes.
+//! Payloads read and written again: a line of standard input is a case in hexadecimal, and the file stdout has the answers
+//! of model.py, which was written from document 01.
+//!
+//! A case is the packet type, four numbers of four bytes, and bytes. The first number is the output's length. The others
+//! say what payload the bytes stand for: so many of them, then a piece of so many, repeated so many times, then the rest.
+//! So a short line has a payload of a thousand addresses, or of megabytes.
+#![tactic(auto)]
+
 use case_lines::{field, refused, text};
 use hns_encoder::Encoder;
 use hns_p2p_fields::from_place;

@@ -1,13 +1,15 @@
-// Payloads read under terms, and the rights of roles: a line of standard input is a case in hexadecimal, and the file stdout
-// has the answers of model.py, which was written from documents 01 and 02.
-//
-// A case is its kind, a packet type, three numbers of eight bytes, and bytes. The first number is the place of an item. The
-// others say which zeros the bytes leave out: after how many bytes they stand, and how many there are. So a short line has a
-// payload of megabytes. The bytes are how many of them the terms take, the terms as compact sizes, and the payload.
-//
-// Kind 0 asks every call that takes terms about one payload, and shows four numbers of each answer, 0 first or the refusal,
-// and what was lent for it. Any other kind asks all calls that take a type about each of the 256 types, and shows the types
-// at which a refusal changes.
+//! Payloads read under terms, and the rights of roles: a line of standard input is a case in hexadecimal, and the file stdout
+//! has the answers of model.py, which was written from documents 01 and 02.
+//!
+//! A case is its kind, a packet type, three numbers of eight bytes, and bytes. The first number is the place of an item. The
+//! others say which zeros the bytes leave out: after how many bytes they stand, and how many there are. So a short line has a
+//! payload of megabytes. The bytes are how many of them the terms take, the terms as compact sizes, and the payload.
+//!
+//! Kind 0 asks every call that takes terms about one payload, and shows four numbers of each answer, 0 first or the refusal,
+//! and what was lent for it. Any other kind asks all calls that take a type about each of the 256 types, and shows the types
+//! at which a refusal changes.
+#![tactic(auto)]
+
 use case_input::Asked;
 use case_lines::{number, text};
 use hns_p2p_fields::from_place;

@@ -1,7 +1,9 @@
-// The published Rust's answers, asked of the port: a line of standard input is a case in hexadecimal, and the file
-// stdout has what the Rust answered. `differential/run --answers` makes both.
-//
-// A case is its kind, a network, three numbers of eight bytes, and its bytes.
+//! The published Rust's answers, asked of the port: a line of standard input is a case in hexadecimal, and the file
+//! stdout has what the Rust answered. `differential/run --answers` makes both.
+//!
+//! A case is its kind, a network, three numbers of eight bytes, and its bytes.
+#![tactic(auto)]
+
 use case_lines::{hex, number};
 
 fn row(answer: [u64; 6]) {

@@ -1,13 +1,15 @@
-// The published Rust's answers about packets that are read, asked of the port: a line of standard input is a case in
-// hexadecimal, and the file stdout has what the Rust answered. `differential/run --answers` makes both.
-//
-// A case is its kind, a packet type, three numbers of eight bytes, and its bytes. The first number is the length of the
-// lent output, or the place of an item. The others say which zeros the bytes leave out: after how many bytes they stand,
-// and how many there are. So a short line has a payload of megabytes.
-//
-// An answer is the kind, and 0 with what was answered, or the refusal's number and values; then the lent output. For a
-// place it has the bytes that stand there, since the Rust has no places; but for where a list of addresses or differences
-// begins, and among the numbers of all items.
+//! The published Rust's answers about packets that are read, asked of the port: a line of standard input is a case in
+//! hexadecimal, and the file stdout has what the Rust answered. `differential/run --answers` makes both.
+//!
+//! A case is its kind, a packet type, three numbers of eight bytes, and its bytes. The first number is the length of the
+//! lent output, or the place of an item. The others say which zeros the bytes leave out: after how many bytes they stand,
+//! and how many there are. So a short line has a payload of megabytes.
+//!
+//! An answer is the kind, and 0 with what was answered, or the refusal's number and values; then the lent output. For a
+//! place it has the bytes that stand there, since the Rust has no places; but for where a list of addresses or differences
+//! begins, and among the numbers of all items.
+#![tactic(auto)]
+
 use case_input::Asked;
 use hns_encoder::Encoder;
 use hns_p2p_fields::from_place;

@@ -1,11 +1,13 @@
-// The published Rust's answers about packets that are written, asked of the port: a line of standard input is a case in
-// hexadecimal, and the file stdout has what the Rust answered. `differential/run --answers` makes both.
-//
-// A case is its kind, a packet type, three numbers of eight bytes, and its bytes: a payload to write again, or what the
-// type's writer is given, arguments of a fixed size first. The first number is the output's length. The others say which
-// zeros the bytes leave out: after how many bytes they stand, and how many there are. So a short line has megabytes.
-//
-// An answer is the kind, 0 and the length written, or the refusal's number and values; then the output.
+//! The published Rust's answers about packets that are written, asked of the port: a line of standard input is a case in
+//! hexadecimal, and the file stdout has what the Rust answered. `differential/run --answers` makes both.
+//!
+//! A case is its kind, a packet type, three numbers of eight bytes, and its bytes: a payload to write again, or what the
+//! type's writer is given, arguments of a fixed size first. The first number is the output's length. The others say which
+//! zeros the bytes leave out: after how many bytes they stand, and how many there are. So a short line has megabytes.
+//!
+//! An answer is the kind, 0 and the length written, or the refusal's number and values; then the output.
+#![tactic(auto)]
+
 use case_input::Asked;
 use hns_p2p_fields::from_place;
 

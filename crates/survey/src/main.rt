@@ -1,8 +1,10 @@
-// Reads a mainnet peer log on standard input and writes its exported survey to standard output.
-//
-// What decides is in survey_export: a chunk's lines, when the text is written out, the held count and the place onward,
-// the last line. Here are the reads, the writes and what is said where one fails. A survey without its last line does
-// not count, so after a failed read the lines so far are written and nothing more, and after a failed write nothing.
+//! Reads a mainnet peer log on standard input and writes its exported survey to standard output.
+//!
+//! What decides is in survey_export: a chunk's lines, when the text is written out, the held count and the place onward,
+//! the last line. Here are the reads, the writes and what is said where one fails. A survey without its last line does
+//! not count, so after a failed read the lines so far are written and nothing more, and after a failed write nothing.
+#![tactic(auto)]
+
 ghost use Rattle.std.specs.Prelude.{◌≡◌, ℕ, ◌-◌, ◌≤◌, length};
 ghost use Rattle.survey_export.specs.Survey.{chunk_size, room_size, text_size};
 ghost use Rattle.survey_export.specs.Program.{begun, Steps};

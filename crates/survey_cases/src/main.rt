@@ -1,5 +1,7 @@
-// Surveys of small logs made here, by the survey program's steps and sizes: a line for each log, and its export below it;
-// of a long one, how long the export is and its last line. The file stdout has the lines that are right.
+//! Surveys of small logs made here, by the survey program's steps and sizes: a line for each log, and its export below it;
+//! of a long one, how long the export is and its last line. The file stdout has the lines that are right.
+#![tactic(auto)]
+
 ghost use Rattle.std.specs.Prelude.{◌<◌, ◌≤◌};
 
 use hns_encoder::Encoder;

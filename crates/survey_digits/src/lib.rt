@@ -1,4 +1,6 @@
-// Digits of the exported survey: bytes in hexadecimal, a number in decimal, both by one formula.
+//! Digits of the exported survey: bytes in hexadecimal, a number in decimal, both by one formula.
+#![tactic(auto)]
+
 ghost use Rattle.std.specs.Prelude.{◌≡◌, ◌*◌, ◌≤◌, ◌<◌, length};
 ghost use Rattle.hns_encoding.specs.Bytes.{left};
 ghost use Rattle.hns_encoding.specs.Put.{Put};

@@ -1,4 +1,6 @@
-// The exported survey: its lines, and the step that takes a chunk of a log.
+//! The exported survey: its lines, and the step that takes a chunk of a log.
+#![tactic(auto)]
+
 ghost use Rattle.std.specs.Prelude.{◌≡◌};
 ghost use Rattle.hns_encoding.specs.Put.{Put};
 ghost use Rattle.hns_p2p_frame.specs.declared.NetworkMagic.TheVariants.{Mainnet};

@@ -1,10 +1,12 @@
-// Pushes that keep a tally: a line of standard input is a case in hexadecimal, and the file stdout has the answers of
-// model.py, which was written from documents 01 and 02.
-//
-// A case is the store's length (four bytes), how many numbers of the tally are not zero at the start (two), the place (two)
-// and the value (eight) of each, and pushes up to the line's end. A push is the network, with 4 added if a held count is
-// given (one), that count (eight), the lengths of the tally (two) and of the output (four), how many bytes of input follow
-// (two), how many zeros are the input if none do (four), and these bytes. So a short line has a long frame.
+//! Pushes that keep a tally: a line of standard input is a case in hexadecimal, and the file stdout has the answers of
+//! model.py, which was written from documents 01 and 02.
+//!
+//! A case is the store's length (four bytes), how many numbers of the tally are not zero at the start (two), the place (two)
+//! and the value (eight) of each, and pushes up to the line's end. A push is the network, with 4 added if a held count is
+//! given (one), that count (eight), the lengths of the tally (two) and of the output (four), how many bytes of input follow
+//! (two), how many zeros are the input if none do (four), and these bytes. So a short line has a long frame.
+#![tactic(auto)]
+
 ghost use Rattle.std.specs.Prelude.{◌<◌, ◌≤◌, length};
 
 use case_lines::{field, number, text};

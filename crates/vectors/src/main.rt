@@ -1,5 +1,7 @@
-// Document 01's examples of the refusals and compact sizes of hns_encoding and hns_header_consensus, and the genesis
-// headers, a line a case: what was asked and what was answered. The file stdout has the lines that are right.
+//! Document 01's examples of the refusals and compact sizes of hns_encoding and hns_header_consensus, and the genesis
+//! headers, a line a case: what was asked and what was answered. The file stdout has the lines that are right.
+#![tactic(auto)]
+
 use case_lines::{end_line, field, hex, text};
 use hns_encoder::Encoder;
 use hns_encoding::{Finished, Number, Slice};

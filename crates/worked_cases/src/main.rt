@@ -1,9 +1,11 @@
-// Document 01's example of each refusal, its worked bytes and slips, BIP 152's example, and the genesis headers as a packet:
-// a line an example, in words and then what the call answered. The file stdout has the lines that are right; model.py has
-// them from the papers.
-//
-// 6 is left out: its example lends 16,000,011 bytes, and a program has no memory but its stack of 8 MB (docs/DECISIONS.md, 31).
-// 5 by reading and writing takes 8,000,001 of them.
+//! Document 01's example of each refusal, its worked bytes and slips, BIP 152's example, and the genesis headers as a packet:
+//! a line an example, in words and then what the call answered. The file stdout has the lines that are right; model.py has
+//! them from the papers.
+//!
+//! 6 is left out: its example lends 16,000,011 bytes, and a program has no memory but its stack of 8 MB (docs/DECISIONS.md, 31).
+//! 5 by reading and writing takes 8,000,001 of them.
+#![tactic(auto)]
+
 use case_lines::{end_line, field, hex, number, signed, text};
 use hns_encoder::Encoder;
 use hns_header_consensus::{Answer, Header};

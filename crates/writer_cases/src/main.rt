@@ -1,9 +1,11 @@
-// Packet writers: a line of standard input is a call in hexadecimal, and the file stdout has the answers of model.py, which
-// was written from document 01.
-//
-// A case is which writer, the output's length and how many zero bytes follow the case's own (a byte, then 8 bytes each); then
-// the arguments, those of a fixed size first, and last the text, list or bytes, to which the zeros belong. The output has a
-// pattern before the call. After an answer comes what was written, and how many of the other bytes still have the pattern.
+//! Packet writers: a line of standard input is a call in hexadecimal, and the file stdout has the answers of model.py, which
+//! was written from document 01.
+//!
+//! A case is which writer, the output's length and how many zero bytes follow the case's own (a byte, then 8 bytes each); then
+//! the arguments, those of a fixed size first, and last the text, list or bytes, to which the zeros belong. The output has a
+//! pattern before the call. After an answer comes what was written, and how many of the other bytes still have the pattern.
+#![tactic(auto)]
+
 ghost use Rattle.std.specs.Prelude.{◌≤◌, length};
 
 use case_lines::{field, hex, refused, text};
