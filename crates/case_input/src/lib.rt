@@ -9,7 +9,7 @@ ghost use Rattle.case_input.specs.Zeros.{Zeros, Around, Cleared};
 use hns_encoder::Encoder;
 
 // How far the input is taken.
-#[derive(Drop)]
+#[derive(Clone, Copy)]
 pub struct Lines {
     // How many steps may follow, none after the last case. A proved loop has to end, and nothing says that an input does: so
     // steps are counted down from a number that no input uses up.
@@ -115,7 +115,7 @@ pub fn first_case(buffer: &mut [u8], case: &mut [u8]) -> Lines
 }
 
 // Where the zeros of a long case stand, and where it ends.
-#[derive(Drop)]
+#[derive(Clone, Copy)]
 pub struct Long {
     pub zeros: usize,
     pub end: usize,
@@ -171,7 +171,7 @@ pub fn clear_long(put: Long, long: &mut [u8])
 }
 
 // What stands before the bytes of a case of the Rust's answers: its kind, a packet type or a network, and three numbers.
-#[derive(Drop)]
+#[derive(Clone, Copy)]
 pub struct Asked {
     pub kind: u8,
     pub about: u8,

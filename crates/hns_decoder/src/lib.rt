@@ -13,7 +13,7 @@ ghost use Rattle.hns_decoder.specs.Helpers.{send_compact_from};
 use hns_encoding::{Finished, Number, Slice};
 use hns_refusals::Refusal;
 
-#[derive(Drop)]
+#[derive(Clone, Copy)]
 pub struct Decoder<'a> {
     input: &'a [u8],
     position: usize,
@@ -130,7 +130,7 @@ impl<'a> Decoder<'a> {
 }
 
 // Mode and version, or the first refusal.
-#[derive(Drop)]
+#[derive(Clone, Copy)]
 pub enum SendCompact {
     Fields { mode: u64, version: u64 },
     Refused(Refusal),

@@ -14,7 +14,7 @@ fn min(a: usize, b: usize) -> usize
 }
 
 // The place of the next byte of an output that is lent beside it.
-#[derive(Drop)]
+#[derive(Clone, Copy)]
 pub struct Encoder {
     pub position: usize,
 }

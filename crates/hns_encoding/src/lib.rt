@@ -11,20 +11,20 @@ ghost use Rattle.hns_encoding.specs.Helpers.{shortest_of, by_form, Read};
 use hns_refusals::Refusal;
 
 // A number and the place after it, or the refusal.
-#[derive(Drop)]
+#[derive(Clone, Copy)]
 pub enum Number {
     Value(u64, usize),
     Refused(Refusal),
 }
 
 // Bytes by their place, from `start` up to `next`, or the refusal.
-#[derive(Drop)]
+#[derive(Clone, Copy)]
 pub enum Slice {
     Part { start: usize, next: usize },
     Refused(Refusal),
 }
 
-#[derive(Drop)]
+#[derive(Clone, Copy)]
 pub enum Finished {
     Done,
     Refused(Refusal),
@@ -233,7 +233,7 @@ pub fn read_compact_size(input: &[u8], position: usize) -> Number
 }
 
 // How many compact sizes were read, and the place after them.
-#[derive(Drop)]
+#[derive(Clone, Copy)]
 pub struct Sizes {
     pub count: usize,
     pub next: usize,

@@ -15,7 +15,7 @@ pub const HEADER_SIZE: usize = 236;
 
 pub const EXTRA_NONCE_SIZE: usize = 24;
 
-#[derive(Drop)]
+#[derive(Clone, Copy)]
 pub struct Header {
     pub nonce: u32,
     pub time: u64,
@@ -31,14 +31,14 @@ pub struct Header {
 }
 
 // The place after the header, or the refusal.
-#[derive(Drop)]
+#[derive(Clone, Copy)]
 pub enum Answer {
     Done(usize),
     Refused(Refusal),
 }
 
 // An enum holds no array, so the header stands beside the answer: the default one where it is refused.
-#[derive(Drop)]
+#[derive(Clone, Copy)]
 pub struct Decoded {
     pub answer: Answer,
     pub header: Header,

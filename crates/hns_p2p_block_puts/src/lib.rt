@@ -12,7 +12,7 @@ ghost use Rattle.hns_p2p_block_puts.specs.Fields.{address_value, address_of, ver
 
 use hns_encoder::Encoder;
 
-#[derive(Drop)]
+#[derive(Clone, Copy)]
 pub struct AddressFields {
     pub time: u64,
     pub services: u64,
@@ -22,7 +22,7 @@ pub struct AddressFields {
 }
 
 // The fields of a version but for the agent, which is lent beside them.
-#[derive(Drop)]
+#[derive(Clone, Copy)]
 pub struct VersionFields {
     pub version: u32,
     pub services: u64,

@@ -4,7 +4,7 @@
 ghost use Rattle.std.specs.Prelude.{◌≡◌};
 ghost use Rattle.hns_p2p_card.specs.Card.{card_row};
 
-#[derive(Drop)]
+#[derive(Clone, Copy)]
 pub struct Row {
     pub least: usize,
     pub greatest: usize,

@@ -11,7 +11,7 @@ use hns_encoding::Number;
 use hns_refusals::Refusal;
 
 // The place after an index list and its last index, 0 where it has none; or the refusal.
-#[derive(Drop)]
+#[derive(Clone, Copy)]
 pub enum Passed {
     To { next: usize, last: u64 },
     Refused(Refusal),
@@ -36,7 +36,7 @@ fn run_sum(payload: &[u8], at: usize) -> u64
 
 // Sixteen indexes on: the least that the next can be, and where its difference stands. A least above 65,536 says that they
 // were not passed, and are to be read one by one.
-#[derive(Drop)]
+#[derive(Clone, Copy)]
 struct Group {
     base: u64,
     next: usize,

@@ -13,7 +13,7 @@ ghost use Rattle.hns_p2p_frame.specs.Helpers.{walk_of};
 use hns_encoder::Encoder;
 use hns_refusals::Refusal;
 
-#[derive(Drop)]
+#[derive(Clone, Copy)]
 pub enum NetworkMagic {
     Mainnet,
     Testnet,
@@ -60,7 +60,7 @@ impl NetworkMagic {
 }
 
 // What a slice begins with. A frame is answered by its type, its payload's length, and how many bytes it took.
-#[derive(Drop)]
+#[derive(Clone, Copy)]
 pub enum Prefix {
     NotYet,
     Frame {
@@ -72,21 +72,21 @@ pub enum Prefix {
 }
 
 // A slice that is one frame.
-#[derive(Drop)]
+#[derive(Clone, Copy)]
 pub enum Exact {
     Frame { packet_type: u8, length: usize },
     Refused(Refusal),
 }
 
 // The length of an encoding that was written, or the refusal.
-#[derive(Drop)]
+#[derive(Clone, Copy)]
 pub enum Encoded {
     Written(usize),
     Refused(Refusal),
 }
 
 // The number of frames that a push delivered and the length of their encodings, or its refusal; and how many bytes are held.
-#[derive(Drop)]
+#[derive(Clone, Copy)]
 pub enum Pushed {
     Accepted {
         frames: usize,
@@ -100,7 +100,7 @@ pub enum Pushed {
 }
 
 // The same with the frames and bytes delivered beside a refusal too: the answer of a push with a tally.
-#[derive(Drop)]
+#[derive(Clone, Copy)]
 pub enum Delivered {
     Accepted {
         frames: usize,
@@ -116,14 +116,14 @@ pub enum Delivered {
 }
 
 // Whether a push is turned away before the append, or how many bytes held and input are together.
-#[derive(Drop)]
+#[derive(Clone, Copy)]
 pub enum Intake {
     TurnedAway(Refusal),
     Taken(usize),
 }
 
 // The frames that a slice begins with, up to the first that is not all there.
-#[derive(Drop)]
+#[derive(Clone, Copy)]
 enum Walk {
     Stopped { frames: usize, bytes: usize },
     Refused(Refusal),

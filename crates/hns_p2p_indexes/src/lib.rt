@@ -16,7 +16,7 @@ use hns_p2p_types::{Listing, Stored};
 use hns_refusals::Refusal;
 
 // A difference and the place after it.
-#[derive(Drop)]
+#[derive(Clone, Copy)]
 struct Step {
     difference: u64,
     after: usize,

@@ -13,7 +13,7 @@ use hns_encoder::Encoder;
 use hns_p2p_frame::Encoded;
 use hns_p2p_plans::Plan;
 
-#[derive(Drop)]
+#[derive(Clone, Copy)]
 pub struct Inventory {
     pub kind: u32,
     pub hash: [u8; 32],

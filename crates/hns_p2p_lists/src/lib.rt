@@ -28,7 +28,7 @@ const HEADERS: u64 = MAX_HEADERS as u64;
 const INDEXES: u64 = MAX_COMPACT_BLOCK_TRANSACTIONS as u64;
 
 // Items under a count and the place after them, or the refusal.
-#[derive(Drop)]
+#[derive(Clone, Copy)]
 enum Counted {
     Items {
         count: usize,

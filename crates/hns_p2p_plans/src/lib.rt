@@ -14,7 +14,7 @@ ghost use Rattle.hns_refusals.specs.declared.Checked.TheVariants.{Passed};
 use hns_refusals::{Checked, Refusal};
 
 // How many bytes are to be written, or the refusal.
-#[derive(Drop)]
+#[derive(Clone, Copy)]
 pub enum Plan {
     Write(usize),
     Refused(Refusal),

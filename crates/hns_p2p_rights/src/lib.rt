@@ -13,7 +13,7 @@ ghost use Rattle.hns_p2p_rights.specs.Rights.{granted, may_send, types_granted};
 use hns_refusals::{Checked, Refusal};
 
 // How many types a role may send, or the refusal.
-#[derive(Drop)]
+#[derive(Clone, Copy)]
 pub enum Granted {
     Types(u32),
     Refused(Refusal),

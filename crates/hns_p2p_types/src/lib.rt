@@ -24,7 +24,7 @@ pub const MAX_COMPACT_BLOCK_TRANSACTIONS: usize = 16_662;
 
 pub const NET_ADDRESS_SIZE: usize = 88;
 
-#[derive(Drop)]
+#[derive(Clone, Copy)]
 pub enum PacketType {
     Version,
     Verack,
@@ -154,7 +154,7 @@ pub fn signed_bits(rate: i64) -> u64
     rate as u64
 }
 
-#[derive(Drop)]
+#[derive(Clone, Copy)]
 pub enum InventoryKind {
     Transaction,
     Block,
@@ -196,21 +196,21 @@ impl InventoryKind {
 }
 
 // Bytes of the payload: where they begin, and how many.
-#[derive(Drop)]
+#[derive(Clone, Copy)]
 pub struct Span {
     pub start: usize,
     pub length: usize,
 }
 
 // Items under a count: how many, and where the first one begins.
-#[derive(Drop)]
+#[derive(Clone, Copy)]
 pub struct Items {
     pub count: usize,
     pub first: usize,
 }
 
 // 32 bytes of the payload from a place on, or no hash.
-#[derive(Drop)]
+#[derive(Clone, Copy)]
 pub enum Hash {
     At(usize),
     Absent,
@@ -218,7 +218,7 @@ pub enum Hash {
 
 // The ip is two little-endian numbers, of its first and of its last 8 bytes, zeros where the host kind is not 0; the key is
 // 33 bytes of the payload from a place on.
-#[derive(Drop)]
+#[derive(Clone, Copy)]
 pub struct NetAddress {
     pub time: u64,
     pub services: u64,
@@ -228,7 +228,7 @@ pub struct NetAddress {
     pub key: usize,
 }
 
-#[derive(Drop)]
+#[derive(Clone, Copy)]
 pub struct VersionPacket {
     pub version: u32,
     pub services: u64,
@@ -240,13 +240,13 @@ pub struct VersionPacket {
     pub no_relay: bool,
 }
 
-#[derive(Drop)]
+#[derive(Clone, Copy)]
 pub struct LocatorPacket {
     pub locator: Items,
     pub stop: usize,
 }
 
-#[derive(Drop)]
+#[derive(Clone, Copy)]
 pub struct RejectPacket {
     pub message: u8,
     pub code: u8,
@@ -254,20 +254,20 @@ pub struct RejectPacket {
     pub hash: Hash,
 }
 
-#[derive(Drop)]
+#[derive(Clone, Copy)]
 pub struct GetProofPacket {
     pub root: usize,
     pub key: usize,
 }
 
-#[derive(Drop)]
+#[derive(Clone, Copy)]
 pub struct CompactBlockRequest {
     pub block_hash: usize,
     pub indexes: Items,
 }
 
 // The packet that a payload reads as, or the refusal.
-#[derive(Drop)]
+#[derive(Clone, Copy)]
 pub enum Packet {
     Version(VersionPacket),
     Verack,
@@ -304,7 +304,7 @@ pub enum Packet {
 }
 
 // An item under a count, fetched by its place in the list: numbers, and places of the payload; or the refusal.
-#[derive(Drop)]
+#[derive(Clone, Copy)]
 pub enum Item {
     Address(NetAddress),
     Inventory { kind: u32, hash: usize },
@@ -315,7 +315,7 @@ pub enum Item {
 }
 
 // The items under the count of a payload, by what they are; or the refusal.
-#[derive(Drop)]
+#[derive(Clone, Copy)]
 pub enum Listing {
     Addresses(Items),
     Inventory(Items),
@@ -327,7 +327,7 @@ pub enum Listing {
 }
 
 // A place of an inventory item with a hash, none, or the refusal.
-#[derive(Drop)]
+#[derive(Clone, Copy)]
 pub enum Found {
     At(usize),
     Nowhere,
@@ -335,7 +335,7 @@ pub enum Found {
 }
 
 // How many indexes were stored, or the refusal.
-#[derive(Drop)]
+#[derive(Clone, Copy)]
 pub enum Stored {
     Count(usize),
     Refused(Refusal),

@@ -94,7 +94,7 @@ fn of_version(version: VersionPacket) -> [u64; 16]
 }
 
 // 1 and the place of a hash, or 0 twice.
-#[derive(Drop)]
+#[derive(Clone, Copy)]
 struct HashNumbers {
     there: u64,
     place: u64,

@@ -5,7 +5,7 @@ ghost use Rattle.std.specs.Prelude.{◌≡◌};
 ghost use Rattle.hns_refusals.specs.Refusals.{unexpected_end, not_shortest, trailing_bytes, magic_mismatch, payload_too_large, stream_too_large, over_limit, incomplete_frame, index_over, not_ascii, hash_presence, too_many_indexes, index_too_large, not_rising, header_length, output_short, store_short, held_over, no_item, tally_full, no_role, not_granted};
 
 // A refusal as the documents' table has it: its number and its values, 0 where unnamed.
-#[derive(Drop)]
+#[derive(Clone, Copy)]
 pub struct Refusal {
     pub number: u64,
     pub a: u64,
@@ -14,7 +14,7 @@ pub struct Refusal {
 }
 
 // What a test answers.
-#[derive(Drop)]
+#[derive(Clone, Copy)]
 pub enum Checked {
     Passed,
     Refused(Refusal),

@@ -14,14 +14,14 @@ use libc::{STDIN_FILENO, STDOUT_FILENO};
 use survey_export::Step;
 
 // What a turn leaves: the held count and where the text goes on; or the end.
-#[derive(Drop)]
+#[derive(Clone, Copy)]
 enum After {
     Next { held: usize, position: usize },
     End,
 }
 
 // What reading gave: bytes, none at the end; or a failed read.
-#[derive(Drop)]
+#[derive(Clone, Copy)]
 enum Filled {
     Bytes(usize),
     Failed,

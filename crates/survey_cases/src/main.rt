@@ -15,7 +15,7 @@ fn say(text: &[u8]) {
 }
 
 // What a step leaves: the held count, where the text goes on, how much was written, and whether the survey goes on.
-#[derive(Drop)]
+#[derive(Clone, Copy)]
 struct Next {
     held: usize,
     position: usize,

@@ -14,7 +14,7 @@ use hns_p2p_frame::{NetworkMagic, Prefix, Pushed};
 
 // What is to do after a chunk: the first `write` bytes of the text are written out, and the survey goes on with the held
 // count and the place; or they are written out, and it is over.
-#[derive(Drop)]
+#[derive(Clone, Copy)]
 pub enum Step {
     Next {
         held: usize,
@@ -27,7 +27,7 @@ pub enum Step {
 }
 
 // What a chunk's push put into the text: lines, up to a place, with the held count; or the line of a stop.
-#[derive(Drop)]
+#[derive(Clone, Copy)]
 enum Placed {
     Lines { held: usize, position: usize },
     Stop { position: usize },

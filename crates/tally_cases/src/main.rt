@@ -30,7 +30,7 @@ const LONG_ROOM: usize = 210_000;
 const TALLY_ROOM: usize = 520;
 
 // What a push is asked with.
-#[derive(Drop)]
+#[derive(Clone, Copy)]
 struct Asked {
     network: u8,
     held: usize,
