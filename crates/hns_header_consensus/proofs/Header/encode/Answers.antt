@@ -1,22 +1,12 @@
 use Prim.Native.Nat.{ℕ}
-use borrow.Author.Rules.{rules, length_unmapped}
+use borrow.Author.Rules.{length_unmapped}
 use Rattle.hns_encoding.specs.Format.{Fit}
 use Rattle.hns_header_consensus.specs.Answers.{fields_of}
 use Rattle.hns_header_consensus.specs.Layout.{header}
 use Rattle.hns_encoding.proofs.Blocks.{fixed_length}
 use native.Mathlib.Omega.{arith}
 use Rattle.hns_encoding.proofs.Puts.{put_all}
-use Rattle.hns_header_consensus.proofs.Header.encode.Statement.{statement}
-use Rattle.hns_header_consensus.proofs.Header.encode.Tie as tie
-
-new-requires : tie.Need-new-requires
-new-requires c κs = search rules
-
-slice-aggregate-encode-to : tie.Need-slice-aggregate-encode-to
-slice-aggregate-encode-to c = search rules
-
-encode-to-requires : tie.Need-encode-to-requires
-encode-to-requires c κs = search rules
+use Rattle.hns_header_consensus.proofs.Header.encode.Goals as goal
 
 -- every header of the code can be written
 fit : (c : tie.After-out2) → Fit header (fields_of c.before.before.before.before.args.self)
@@ -54,9 +44,5 @@ fit c =
       ),
     )
 
-returns : tie.Need-returns
-returns c = put_all c.before.before.before.new.ensures (fixed_length header _ (fields_of c.before.before.before.before.args.self) (fit c)) c.before.encode-to.ensures
-
-pub encode-spec : {M : Type 1} → statement M
-encode-spec =
-    tie.close (tie.spec new-requires slice-aggregate-encode-to encode-to-requires returns)
+pub returns : goal.returns
+returns c = put_all c.new.ensures (fixed_length header _ (fields_of c.args.self) (fit c)) c.encode_to.ensures
