@@ -1,10 +1,1 @@
-pub mod Call
-pub mod Callee
-pub mod ByValue
-pub mod OfSlice
-pub mod After
-pub mod Lent
-pub mod LentWith
-pub mod Places
-pub mod Uses
 pub mod Answers

@@ -152,7 +152,7 @@ fn send_compact_from(mode: Number, version: Number, end: Finished) -> SendCompac
     }
 }
 
-// Type 22: mode 1, version 8, and no byte after them; 21, 22 and 5 are for `admit` to test. It takes a plain slice, so that its callers need no proof by hand.
+// Type 22: mode 1, version 8, and no byte after them; 21, 22 and 5 are for `admit` to test. It takes a plain slice, as the reads of hns_encoding do.
 pub fn read_send_compact(payload: &[u8]) -> SendCompact
     ensures { result ≡ send_compact_of (to_end (read (num 1 ▸ num 8)) payload.now) }
 {
