@@ -28,4 +28,4 @@ unfolding kind_of kinds
 returns-in-6 c = rw c.in-6.is
 
 pub returns-in_default : goal.returns-in_default
-returns-in_default c = kind_past _ c.in_default.rest
+returns-in_default c = kind_past _ c.in_default.in_default-own.rest

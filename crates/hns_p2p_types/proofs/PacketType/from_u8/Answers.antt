@@ -124,4 +124,4 @@ unfolding type_of types
 returns-in-29 c = rw c.in-29.is
 
 pub returns-in_default : goal.returns-in_default
-returns-in_default c = type_past _ (none_below 30 _ c.in_default.rest)
+returns-in_default c = type_past _ (none_below 30 _ c.in_default.in_default-own.rest)
