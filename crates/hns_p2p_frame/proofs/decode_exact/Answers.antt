@@ -15,11 +15,8 @@ use Rattle.hns_p2p_frame.specs.Frame.{front, missing, exactly, decode_exact}
 use Rattle.hns_p2p_frame.specs.Answers.{prefix_of, exact_of}
 use Rattle.hns_p2p_frame.proofs.Fronts.{front_rest}
 use Rattle.hns_p2p_frame.proofs.Answers.{front_not_yet, front_bad, front_whole}
-use borrow.Author.Rules.{rules}
-use Rattle.hns_p2p_frame.proofs.decode_exact.Statement.{statement}
-use Rattle.hns_p2p_frame.proofs.decode_exact.Tie as tie
+use Rattle.hns_p2p_frame.proofs.decode_exact.Goals as goal
 
--- a is what the prefix answered
 module _ (net : NetworkMagic) (xs : List ℕ) {a : Prefix} (q : a ≡ prefix_of (front net xs)) where
   lacks : a ≡ P.NotYet → {n : ℕ} {r : Refusal} → n ≡ missing xs → r ≡ incomplete_frame n → X.Refused r ≡ exact_of (decode_exact net xs)
   unfolding decode_exact exactly exact_of
@@ -48,68 +45,26 @@ module _ (net : NetworkMagic) (xs : List ℕ) {a : Prefix} (q : a ≡ prefix_of 
         let v = front_whole (front net xs) q e in
         rw (v.is, after, eq-eqb (length xs - t) 0 (omega arith), v.packet_type, v.size)
 
-decode-frame-prefix-requires : tie.Need-decode-frame-prefix-requires
-decode-frame-prefix-requires c κs = search rules
+pub returns-then-taken-input : goal.returns-then-taken-input
+returns-then-taken-input c =
+    let z = c.args in
+    let d = c.decode_frame_prefix in
+    more z.network z.input.now d.ensures c.in-Frame.is c.if-taken-input.true c.trailing_bytes.ensures
 
-enum_told : tie.Need-enum-told
-enum_told c = search rules
+pub returns-in-NotYet : goal.returns-in-NotYet
+returns-in-NotYet c =
+    let z = c.args in
+    let d = c.decode_frame_prefix in
+    lacks z.network z.input.now d.ensures c.in-NotYet.is c.bytes_needed_for_frame-needed.ensures c.incomplete_frame.ensures
 
-bytes-needed-for-frame-requires : tie.Need-bytes-needed-for-frame-requires
-bytes-needed-for-frame-requires c κs = search rules
+pub returns-in-Refused : goal.returns-in-Refused
+returns-in-Refused c =
+    let z = c.args in
+    let d = c.decode_frame_prefix in
+    stops z.network z.input.now d.ensures c.in-Refused.is
 
-incomplete-frame-requires : tie.Need-incomplete-frame-requires
-incomplete-frame-requires c κs = search rules
-
-enum-known-why : tie.Need-enum-known-why
-enum-known-why c = search rules
-
-enum-known-packet-type : tie.Need-enum-known-packet-type
-enum-known-packet-type c = search rules
-
-sub-trailing-bytes : tie.Need-overflow-sub-trailing-bytes
-sub-trailing-bytes c = search rules
-
-trailing-bytes-requires : tie.Need-trailing-bytes-requires
-trailing-bytes-requires c κs = search rules
-
-returns : tie.Need-returns
-returns c =
-    let z = c.before.before.before.before.before.before.before.args in
-    let d = c.before.before.before.before.before.decode-frame-prefix in
-    let f = c.before.before.before.packet-type.given in
-    more z.network z.input.now d.ensures f.1 c.before.if1.true c.trailing-bytes.ensures
-
-returns-2 : tie.Need-returns-2
-returns-2 c =
-    let z = c.before.before.before.before.before.before.args in
-    let d = c.before.before.before.before.decode-frame-prefix in
-    lacks z.network z.input.now d.ensures c.before.before.enum_told.given.1 c.before.bytes-needed-for-frame.ensures c.incomplete-frame.ensures
-
-returns-3 : tie.Need-returns-3
-returns-3 c =
-    let z = c.before.before.before.before.before.args in
-    let d = c.before.before.before.decode-frame-prefix in
-    stops z.network z.input.now d.ensures c.before.why.given.1
-
-returns-4 : tie.Need-returns-4
-returns-4 c =
-    let z = c.before.before.before.before.before.before.args in
-    let d = c.before.before.before.before.decode-frame-prefix in
-    one z.network z.input.now d.ensures c.before.before.packet-type.given.1 c.if1.false
-
-pub decode-exact-spec : {M : Type 1} → statement M
-decode-exact-spec =
-    tie.close
-    (tie.spec
-    decode-frame-prefix-requires
-    enum_told
-    bytes-needed-for-frame-requires
-    incomplete-frame-requires
-    enum-known-why
-    enum-known-packet-type
-    sub-trailing-bytes
-    trailing-bytes-requires
-    returns
-    returns-2
-    returns-3
-    returns-4)
+pub returns-else-taken-input : goal.returns-else-taken-input
+returns-else-taken-input c =
+    let z = c.args in
+    let d = c.decode_frame_prefix in
+    one z.network z.input.now d.ensures c.in-Frame.is c.if-taken-input.false
