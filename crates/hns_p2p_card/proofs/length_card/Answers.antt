@@ -1,0 +1,21 @@
+-- `length_card` meets its contract: the code's table is the card's.
+use Prim.Native.Nat.{ℕ, ◌<◌}
+use mathlib.Core.Path.{◌≡◌, sym}
+use mathlib.Core.List.{List}
+use native.Mathlib.Omega.{arith}
+use lib.ListN.{length, get_or, get_or-eq_default}
+use lib.Seq.{drop-cons}
+use Rattle.hns_p2p_card.specs.Card.{rows, card_row, any_bytes}
+use Rattle.hns_p2p_card.proofs.length_card.Goals as goal
+
+-- inside a table the default does not count
+inside : {A : Type 0} (l : List A) (d e : A) (n : ℕ) → n < length l → get_or l n d ≡ get_or l n e
+inside l d e n h = cc (drop-cons l n d h, drop-cons l n e h)
+
+pub returns-then-place-lt30 : goal.returns-then-place-lt30
+unfolding card_row rows
+returns-then-place-lt30 c = inside rows _ any_bytes c.args.packet_type (omega (arith, c.if-place-lt30.true))
+
+pub returns-else-place-lt30 : goal.returns-else-place-lt30
+unfolding card_row rows
+returns-else-place-lt30 c = sym (get_or-eq_default rows any_bytes {n = c.args.packet_type} (omega (arith, c.if-place-lt30.false)))
