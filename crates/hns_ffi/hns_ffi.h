@@ -1,6 +1,6 @@
 /* The proved Handshake codec for C: numbers and bytes in, rows of numbers out.
  *
- * Four libraries, of which a program links those that it uses. `rt staticlib NAME` writes
+ * Four libraries, of which a program links those that it uses. `tools/staticlib NAME` writes
  * target/staticlib/libNAME.a:
  *
  *   hns_ffi          reads, puts, headers

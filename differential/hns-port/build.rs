@@ -1,5 +1,5 @@
 //! Links libhns_ffi.a, libhns_ffi_frames.a, libhns_ffi_packets.a and libhns_ffi_writers.a: from the folder that
-//! HNS_FFI_LIB names, or from where `rt staticlib` writes them.
+//! HNS_FFI_LIB names, or from where `tools/staticlib` writes them.
 use std::env;
 use std::path::{Path, PathBuf};
 
@@ -20,7 +20,7 @@ fn main() {
         println!("cargo::rerun-if-changed={}", library.display());
         if !library.exists() {
             println!(
-                "cargo::error=no {}: run `rt staticlib {name}`",
+                "cargo::error=no {}: run `tools/staticlib {name}`",
                 library.display()
             );
             return;

@@ -132,20 +132,17 @@ module _ {s : List ℕ} {i : Items} {l : Listed} (r : Records inventory_item _ a
   scanned_finds last F.Nowhere g = record { finds = λ k e. (let m = from_item k e in g k m.0 m.1); lowest = tt }
   scanned_finds last (F.Refused q) g = absurd g
 
--- the numbers of the lists that are read and have no inventory items
-abbrev without : List ℕ
-without = 0 ∷ 2 ∷ 3 ∷ 4 ∷ 5 ∷ []
-
-nowhere : (s : List ℕ) (list : Listing) (o : Outcome Listed) (h : List ℕ) → HeldBy s list o → OneOf without (tag_of listings.the_type list) → FindsLowest o h F.Nowhere
+-- the hash stands nowhere in a list that is read and has no inventory items
+nowhere : (s : List ℕ) (list : Listing) (o : Outcome Listed) (h : List ℕ) → HeldBy s list o → ((i : Items) → list ≡ L.Inventory i → ⊥) → ((r : Refusal) → list ≡ L.Refused r → ⊥) → FindsLowest o h F.Nowhere
 unfolding Finds Lowest
-nowhere s list (stop r) h x k = absurd (miss without 6 tt (rw x at k))
-nowhere s (L.Inventory i) (got l last) h x k = absurd (miss without 1 tt k)
-nowhere s (L.Refused r) (got l last) h x k = absurd x.0
-nowhere s (L.Addresses i) (got l last) h x q = record { finds = other_records x.0 h (λ v z. z); lowest = tt }
-nowhere s (L.Hashes i) (got l last) h x q = record { finds = other_records x.0 h (λ v z. z); lowest = tt }
-nowhere s (L.Headers i) (got l last) h x q = record { finds = other_records x.0 h (λ v z. z); lowest = tt }
-nowhere s (L.Indexes i) (got l last) h x q = record { finds = λ k e. others an_index h (λ v z. z) x.0.indexes k (subst (λ (es : List Element). Has h es k) x.0.same e); lowest = tt }
-nowhere s L.Nothing (got l last) h x q = record { finds = λ k e. subst (λ (es : List Element). Has h es k) x.0 e; lowest = tt }
+nowhere s list (stop r) h x q k = absurd (k r x)
+nowhere s (L.Inventory i) (got l last) h x q k = absurd (q i refl)
+nowhere s (L.Refused r) (got l last) h x q k = absurd x.0
+nowhere s (L.Addresses i) (got l last) h x q k = record { finds = other_records x.0 h (λ v z. z); lowest = tt }
+nowhere s (L.Hashes i) (got l last) h x q k = record { finds = other_records x.0 h (λ v z. z); lowest = tt }
+nowhere s (L.Headers i) (got l last) h x q k = record { finds = other_records x.0 h (λ v z. z); lowest = tt }
+nowhere s (L.Indexes i) (got l last) h x q k = record { finds = λ k e. others an_index h (λ v z. z) x.0.indexes k (subst (λ (es : List Element). Has h es k) x.0.same e); lowest = tt }
+nowhere s L.Nothing (got l last) h x q k = record { finds = λ k e. subst (λ (es : List Element). Has h es k) x.0 e; lowest = tt }
 
 -- a list that is read as inventory items, or refused
 inventory_held : (s : List ℕ) {list : Listing} {i : Items} (o : Outcome Listed) → HeldBy s list o → list ≡ L.Inventory i → (l : Listed) × (last : ℕ) × (o ≡ got l last) × Records inventory_item _ an_inventory s i l
@@ -162,8 +159,8 @@ module _ (u : Terms) (t : ℕ) (s : List ℕ) (bs : Bytes s) {list : Listing} (e
   by : HeldBy s list (listed_under u t s)
   by = held_by u t s bs e
 
-  pub find_none : (h : List ℕ) → OneOf without (tag_of listings.the_type list) → FindsLowest (listed_under u t s) h F.Nowhere
-  find_none h k = nowhere s list (listed_under u t s) h by k
+  pub find_none : (h : List ℕ) → ((i : Items) → list ≡ L.Inventory i → ⊥) → ((r : Refusal) → list ≡ L.Refused r → ⊥) → FindsLowest (listed_under u t s) h F.Nowhere
+  find_none h q k = nowhere s list (listed_under u t s) h by q k
 
   pub find_refused : (h : List ℕ) {r : Refusal} → list ≡ L.Refused r → FindsLowest (listed_under u t s) h (F.Refused r)
   find_refused h {r} g = rw (refused_held s (listed_under u t s) by g) (finds_refusal h r)

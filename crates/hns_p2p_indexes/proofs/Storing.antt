@@ -197,13 +197,10 @@ indexes_seen s {list} {i} (got v last) x e =
     subst (λ (j : Items). Read s j (got v last)) same (record { value = v; last = last; is = refl; many = refl; indexed = x.1 })
 indexes_seen s (stop r) x e = let z : ◌≡◌ {A = ℕ} 0 1 = cc in absurd (omega arith)
 
--- the numbers of the lists that are no index list and no refusal
-abbrev others : List ℕ
-others = 0 ∷ 1 ∷ 2 ∷ 3 ∷ 5 ∷ []
-
-never_other : (s : List ℕ) (list : Listing) (q : Outcome (Value getblocktxn)) → Seen s list q → OneOf others (tag_of listings.the_type list) → ⊥
-never_other s list (got v last) x k = miss others 4 tt (rw x.0 at k)
-never_other s list (stop r) x k = miss others 6 tt (rw x at k)
+-- the list of a getblocktxn is an index list or a refusal
+never_other : (s : List ℕ) (list : Listing) (q : Outcome (Value getblocktxn)) → Seen s list q → ((i : Items) → list ≡ L.Indexes i → ⊥) → ((r : Refusal) → list ≡ L.Refused r → ⊥) → ⊥
+never_other s list (got v last) x q k = q _ x.0
+never_other s list (stop r) x q k = k r x
 
 -- ---- the answers of `indexes`
 
@@ -233,8 +230,8 @@ module _ (u : Terms) (s : List ℕ) (bs : Bytes s) {list : Listing} (e : list �
   unfolding stored_under
   indexes_refused o g = answers (rw (refused_seen s (request_under u s) by g))
 
-  pub indexes_only : OneOf others (tag_of listings.the_type list) → ⊥
-  indexes_only k = never_other s list (request_under u s) by k
+  pub indexes_only : ((i : Items) → list ≡ L.Indexes i → ⊥) → ((r : Refusal) → list ≡ L.Refused r → ⊥) → ⊥
+  indexes_only q k = never_other s list (request_under u s) by q k
 
   module _ {i : Items} (g : list ≡ L.Indexes i) where
     r : Read s i (request_under u s)

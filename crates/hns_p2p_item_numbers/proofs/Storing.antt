@@ -205,24 +205,20 @@ by_shape false s i (got l last) x = record { inside = omega (arith, x.0.inside, 
 by_shape true s i (stop r) x = let z : ◌≡◌ {A = ℕ} 0 1 = cc in absurd (omega arith)
 by_shape false s i (stop r) x = let z : ◌≡◌ {A = ℕ} 0 1 = cc in absurd (omega arith)
 
--- the numbers of the lists that are neither and are no refusal
-abbrev others : List ℕ
-others = 2 ∷ 3 ∷ 4 ∷ 5 ∷ []
-
 no_numbers : (o : List ℕ) (l : Listed) → numbers_after l 0 l.elements ≡ [] → Answers (fitted (numbers_after l 0 l.elements) o) (S.Count 0) o
 no_numbers o l e =
     let fits : leb 0 (length o) ≡ true = le-leb 0 (length o) (omega arith) in
     (rw (e, fits), rw (e, fits) (sym (splice_none o 0)))
 
-of_others : (s : List ℕ) (list : Listing) (o : List ℕ) (l : Listed) → Holds s list l → OneOf others (tag_of listings.the_type list) → numbers_after l 0 l.elements ≡ []
+of_others : (s : List ℕ) (list : Listing) (o : List ℕ) (l : Listed) → Holds s list l → ((i : Items) → list ≡ L.Addresses i → ⊥) → ((i : Items) → list ≡ L.Inventory i → ⊥) → numbers_after l 0 l.elements ≡ []
 unfolding numbers_after
-of_others s (L.Hashes i) o l r k = ap (numbers_after l 0) r.same ∙ none_of a_hash l (λ k v. refl) (values_at (raw 32) _ i.count s i.first) 0
-of_others s (L.Headers i) o l r k = ap (numbers_after l 0) r.same ∙ none_of a_header l (λ k v. refl) (values_at (whole block_header_size header) (refl, _) i.count s i.first) 0
-of_others s (L.Indexes i) o l r k = ap (numbers_after l 0) r.same ∙ none_of an_index l (λ k v. refl) r.indexes 0
-of_others s L.Nothing o l r k = ap (numbers_after l 0) r
-of_others s (L.Addresses i) o l r k = absurd (miss others 0 tt k)
-of_others s (L.Inventory i) o l r k = absurd (miss others 1 tt k)
-of_others s (L.Refused q) o l r k = absurd r
+of_others s (L.Hashes i) o l r q k = ap (numbers_after l 0) r.same ∙ none_of a_hash l (λ k v. refl) (values_at (raw 32) _ i.count s i.first) 0
+of_others s (L.Headers i) o l r q k = ap (numbers_after l 0) r.same ∙ none_of a_header l (λ k v. refl) (values_at (whole block_header_size header) (refl, _) i.count s i.first) 0
+of_others s (L.Indexes i) o l r q k = ap (numbers_after l 0) r.same ∙ none_of an_index l (λ k v. refl) r.indexes 0
+of_others s L.Nothing o l r q k = ap (numbers_after l 0) r
+of_others s (L.Addresses i) o l r q k = absurd (q i refl)
+of_others s (L.Inventory i) o l r q k = absurd (k i refl)
+of_others s (L.Refused x) o l r q k = absurd r
 
 module _ (u : Terms) (t : ℕ) (s : List ℕ) (bs : Bytes s) {list : Listing} (e : list ≡ listing_under u t s) where
   pub numbers_shape : (b : Bool) (i : Items) → list ≡ shaped b i → Shaped b s i (listed_under u t s)
@@ -232,13 +228,13 @@ module _ (u : Terms) (t : ℕ) (s : List ℕ) (bs : Bytes s) {list : Listing} (e
   unfolding numbers_under
   numbers_refused o g = let a = refused_held s (listed_under u t s) (held_by u t s bs e) g in (rw a, rw a)
 
-  pub numbers_none : (o : List ℕ) → OneOf others (tag_of listings.the_type list) → Answers (numbers_under u t s o) (S.Count 0) o
+  pub numbers_none : (o : List ℕ) → ((i : Items) → list ≡ L.Addresses i → ⊥) → ((i : Items) → list ≡ L.Inventory i → ⊥) → ((r : Refusal) → list ≡ L.Refused r → ⊥) → Answers (numbers_under u t s o) (S.Count 0) o
   unfolding numbers_under
-  numbers_none o k = go (listed_under u t s) (held_by u t s bs e)
+  numbers_none o a i k = go (listed_under u t s) (held_by u t s bs e)
     where
       go : (q : Outcome Listed) → HeldBy s list q → Answers (numbers_by q o) (S.Count 0) o
-      go (got l last) x = no_numbers o l (of_others s list o l x.0 k)
-      go (stop r) x = absurd (miss others 6 tt (rw x at k))
+      go (got l last) x = no_numbers o l (of_others s list o l x.0 a i)
+      go (stop r) x = absurd (k r x)
 
   module _ (b : Bool) (i : Items) (g : list ≡ shaped b i) (o : List ℕ) {a : Stored} {o' : List ℕ} where
     pub numbers_all : a ≡ (fitted (numbers_from b s i.count i.first) o).answer → o' ≡ (fitted (numbers_from b s i.count i.first) o).output → Answers (numbers_under u t s o) a o'

@@ -47,44 +47,44 @@ use Rattle.hns_p2p_items.proofs.Held.{held_from, held_by, refused_held, room}
 
 -- ---- packets that have no list
 
--- the numbers of their constructors
-abbrev others : List ℕ
-others = 0 ∷ 1 ∷ 2 ∷ 3 ∷ 4 ∷ 12 ∷ 13 ∷ 14 ∷ 15 ∷ 16 ∷ 17 ∷ 18 ∷ 19 ∷ 20 ∷ 21 ∷ 22 ∷ 23 ∷ 25 ∷ 26 ∷ 27 ∷ 28 ∷ 29 ∷ 30 ∷ []
+-- a packet is not of a variant
+abbrev IsNot : {A : Type 0} → (A → Packet) → Packet → Type 0
+IsNot {A} make p = (x : A) → p ≡ make x → ⊥
 
-pub listless : (p : Packet) → OneOf others (tag_of packets.the_type p) → L.Nothing ≡ list_in p
+pub listless : (p : Packet) → IsNot P.Addr p → IsNot P.Inv p → IsNot P.GetData p → IsNot P.NotFound p → IsNot P.GetBlocks p → IsNot P.GetHeaders p → IsNot P.Headers p → IsNot P.GetBlockTxn p → IsNot P.Refused p → L.Nothing ≡ list_in p
 unfolding list_in
-listless (P.Addr x) k = absurd (miss others 5 tt k)
-listless (P.Inv x) k = absurd (miss others 6 tt k)
-listless (P.GetData x) k = absurd (miss others 7 tt k)
-listless (P.NotFound x) k = absurd (miss others 8 tt k)
-listless (P.GetBlocks x) k = absurd (miss others 9 tt k)
-listless (P.GetHeaders x) k = absurd (miss others 10 tt k)
-listless (P.Headers x) k = absurd (miss others 11 tt k)
-listless (P.GetBlockTxn x) k = absurd (miss others 24 tt k)
-listless (P.Refused x) k = absurd (miss others 31 tt k)
-listless (P.Version x) k = refl
-listless P.Verack k = refl
-listless (P.Ping x) k = refl
-listless (P.Pong x) k = refl
-listless P.GetAddr k = refl
-listless P.SendHeaders k = refl
-listless (P.Block x) k = refl
-listless (P.Tx x) k = refl
-listless (P.Reject x) k = refl
-listless P.Mempool k = refl
-listless (P.FilterLoad x) k = refl
-listless (P.FilterAdd x) k = refl
-listless P.FilterClear k = refl
-listless (P.MerkleBlock x) k = refl
-listless (P.FeeFilter x) k = refl
-listless (P.SendCmpct x y) k = refl
-listless (P.CmpctBlock x) k = refl
-listless (P.BlockTxn x) k = refl
-listless (P.GetProof x) k = refl
-listless (P.Proof x) k = refl
-listless (P.Claim x) k = refl
-listless (P.Airdrop x) k = refl
-listless (P.Unknown x y) k = refl
+listless (P.Addr x) h _ _ _ _ _ _ _ _ = absurd (h x refl)
+listless (P.Inv x) _ h _ _ _ _ _ _ _ = absurd (h x refl)
+listless (P.GetData x) _ _ h _ _ _ _ _ _ = absurd (h x refl)
+listless (P.NotFound x) _ _ _ h _ _ _ _ _ = absurd (h x refl)
+listless (P.GetBlocks x) _ _ _ _ h _ _ _ _ = absurd (h x refl)
+listless (P.GetHeaders x) _ _ _ _ _ h _ _ _ = absurd (h x refl)
+listless (P.Headers x) _ _ _ _ _ _ h _ _ = absurd (h x refl)
+listless (P.GetBlockTxn x) _ _ _ _ _ _ _ h _ = absurd (h x refl)
+listless (P.Refused x) _ _ _ _ _ _ _ _ h = absurd (h x refl)
+listless (P.Version x) _ _ _ _ _ _ _ _ _ = refl
+listless P.Verack _ _ _ _ _ _ _ _ _ = refl
+listless (P.Ping x) _ _ _ _ _ _ _ _ _ = refl
+listless (P.Pong x) _ _ _ _ _ _ _ _ _ = refl
+listless P.GetAddr _ _ _ _ _ _ _ _ _ = refl
+listless P.SendHeaders _ _ _ _ _ _ _ _ _ = refl
+listless (P.Block x) _ _ _ _ _ _ _ _ _ = refl
+listless (P.Tx x) _ _ _ _ _ _ _ _ _ = refl
+listless (P.Reject x) _ _ _ _ _ _ _ _ _ = refl
+listless P.Mempool _ _ _ _ _ _ _ _ _ = refl
+listless (P.FilterLoad x) _ _ _ _ _ _ _ _ _ = refl
+listless (P.FilterAdd x) _ _ _ _ _ _ _ _ _ = refl
+listless P.FilterClear _ _ _ _ _ _ _ _ _ = refl
+listless (P.MerkleBlock x) _ _ _ _ _ _ _ _ _ = refl
+listless (P.FeeFilter x) _ _ _ _ _ _ _ _ _ = refl
+listless (P.SendCmpct x y) _ _ _ _ _ _ _ _ _ = refl
+listless (P.CmpctBlock x) _ _ _ _ _ _ _ _ _ = refl
+listless (P.BlockTxn x) _ _ _ _ _ _ _ _ _ = refl
+listless (P.GetProof x) _ _ _ _ _ _ _ _ _ = refl
+listless (P.Proof x) _ _ _ _ _ _ _ _ _ = refl
+listless (P.Claim x) _ _ _ _ _ _ _ _ _ = refl
+listless (P.Airdrop x) _ _ _ _ _ _ _ _ _ = refl
+listless (P.Unknown x y) _ _ _ _ _ _ _ _ _ = refl
 
 -- ---- the element at a place
 
@@ -199,10 +199,6 @@ item_law s (L.Indexes i) l r k h d = index_law r k h d
 item_law s L.Nothing l r k h d = absurd (omega arith)
 item_law s (L.Refused q) l r k h d = absurd r
 
--- the numbers of the lists that are no refusal
-abbrev unrefused : List ℕ
-unrefused = 0 ∷ 1 ∷ 2 ∷ 3 ∷ 4 ∷ 5 ∷ []
-
 module _ (u : Terms) (t : ℕ) (s : List ℕ) (bs : Bytes s) (k : ℕ) {list : Listing} (e : list ≡ listing_under u t s) where
   pub item_room : {i : Items} → i ≡ items_in list → k < i.count → (i.first ≤ max_payload) × (k ≤ max_payload)
   item_room q h =
@@ -220,7 +216,7 @@ module _ (u : Terms) (t : ℕ) (s : List ℕ) (bs : Bytes s) (k : ℕ) {list : L
           item_law s list l x.0 k h (an_index 0) ∙ sym (pick_there (answer_at l k) (I.Refused no_item) l.elements k (an_index 0) (omega arith))
       go (stop r) x h = absurd (omega (arith, rw x at h))
 
-  pub item_past : {i : Items} → i ≡ items_in list → i.count ≤ k → OneOf unrefused (tag_of listings.the_type list) → I.Refused no_item ≡ item_under u t s k
+  pub item_past : {i : Items} → i ≡ items_in list → i.count ≤ k → ((r : Refusal) → list ≡ L.Refused r → ⊥) → I.Refused no_item ≡ item_under u t s k
   unfolding item_under
   item_past q h z = go (listed_under u t s) (held_by u t s bs e)
     where
@@ -229,7 +225,7 @@ module _ (u : Terms) (t : ℕ) (s : List ℕ) (bs : Bytes s) (k : ℕ) {list : L
           let n = as_many s list l x.0 in
           let m : (items_in list).count ≤ k = rw q at h in
           sym (pick_past (answer_at l k) (I.Refused no_item) l.elements k (omega arith))
-      go (stop r) x = absurd (miss unrefused 6 tt (rw x at z))
+      go (stop r) x = absurd (z r x)
 
   pub item_refused : {r : Refusal} → list ≡ L.Refused r → I.Refused r ≡ item_under u t s k
   unfolding item_under

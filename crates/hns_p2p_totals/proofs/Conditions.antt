@@ -13,7 +13,7 @@ use Rattle.hns_p2p_frame.specs.declared.NetworkMagic.{NetworkMagic}
 use Rattle.hns_p2p_frame.specs.declared.Intake.TheVariants as In
 use Rattle.hns_p2p_frame.specs.declared.Pushed.{Pushed}
 use Rattle.hns_p2p_frame.specs.declared.Pushed.TheVariants as P
-use Rattle.hns_p2p_frame.specs.declared.Delivered.TheVariants.{Accepted, Refused}
+use Rattle.hns_p2p_frame.specs.declared.Delivered.TheVariants.{Refused}
 use Rattle.hns_p2p_frame.specs.Frame.{Frame, encodings, bad}
 use Rattle.hns_p2p_frame.specs.Walk.{cut_up_to, cut, walk}
 use Rattle.hns_p2p_frame.specs.Push as ported
@@ -30,7 +30,7 @@ use Rattle.hns_p2p_stream.proofs.Pushes.{Stepped, away, header, taken, steps}
 use Rattle.hns_p2p_tally.specs.Tally.{tally_size, recount, Passes}
 use Rattle.hns_p2p_tally.specs.Tallying.{Result, turned_away, counted, push_tallying}
 use Rattle.hns_p2p_tally.proofs.Tested.{AllTested, of_push, short, full, room, passes_all, passing_all_is, roomy_true, roomy_is, roomy_false, passes_is}
-use Rattle.hns_p2p_totals.specs.Conditions.{beside, TallyingIs, push_turned_away, tally_short, if_tally_full, pushed, TallyingExactly, FullExactly, Untouched, Appended, RefusedBy, TallyingRefusals}
+use Rattle.hns_p2p_totals.specs.Conditions.{beside, TallyingIs, push_turned_away, tally_short, if_tally_full, pushed, TallyingExactly, FullExactly, RefusedBy, TallyingRefusals}
 use Rattle.hns_p2p_totals.proofs.Rooms.{passed_fits, fits_passed}
 
 -- the frames whose encodings a push put at the output's front

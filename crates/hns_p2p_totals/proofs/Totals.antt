@@ -19,7 +19,7 @@ use Rattle.hns_p2p_stream.specs.Runs as lists
 use Rattle.hns_p2p_stream.specs.Runs.{told, Stream, held_of, PushOn, Call, Total, Run, more, Calls}
 use Rattle.hns_p2p_stream.proofs.Ends.{Ended, walk_ended}
 use Rattle.hns_p2p_stream.proofs.Runs.{GoodOn, Sound, empty, step_good, Kept, kept, list_holds}
-use Rattle.hns_p2p_tally.specs.Tally.{bytes_from, frame_total, byte_total, recount, Roomy}
+use Rattle.hns_p2p_tally.specs.Tally.{bytes_from, size_of, with_frame, frame_total, byte_total, recount, Roomy}
 use Rattle.hns_p2p_tally.specs.Tallying.{turned_away, counted, push_tallying}
 use Rattle.hns_p2p_tally.proofs.Once.{sizes_are}
 use Rattle.hns_p2p_tally.proofs.Tested.{all_passed_is}
@@ -59,7 +59,7 @@ sound (c ∷ cs) a = ((λ net z x o g b. (step_of a.0.0 net z x o g b).step, a.0
 recount_append : (t : List ℕ) (fs gs : List Frame) → recount t (fs ++ gs) ≡ recount (recount t fs) gs
 unfolding recount
 recount_append t [] gs = refl
-recount_append t (f ∷ fs) gs = recount_append _ fs gs
+recount_append t (f ∷ fs) gs = recount_append (with_frame t f.packet_type (size_of f)) fs gs
 
 record TallyKept (z : Stream (List ℕ)) (w : Total) (z' : Stream (List ℕ)) : Type 0 where
   recounts : z'.also ≡ recount z.also w.frames

@@ -26,8 +26,8 @@
 //! # Linking
 //!
 //! The libraries are taken from the folder that HNS_FFI_LIB names, or from target/staticlib of the
-//! repository, where `rt staticlib hns_ffi`, `hns_ffi_frames`, `hns_ffi_packets` and `hns_ffi_writers`
-//! put them.
+//! repository, where `tools/staticlib hns_ffi hns_ffi_frames hns_ffi_packets hns_ffi_writers` puts
+//! them.
 //!
 //! # Why every function is safe
 //!

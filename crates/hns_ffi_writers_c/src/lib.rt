@@ -1,0 +1,157 @@
+//! libhns_ffi_writers.a for callers in C and Rust: each function of hns_ffi_writers, exported with the contract that it has there.
+#![tactic(auto)]
+
+ghost use Rattle.std.specs.Prelude.{◌≡◌};
+ghost use Rattle.hns_encoding.specs.Bytes.{raw_at};
+ghost use Rattle.hns_p2p_fields.specs.Fields.{version_fields_in};
+ghost use Rattle.hns_p2p_writer.specs.Writers.{gives_version, gives_empty, gives_nonce, gives_addr, gives_inventory, gives_locator, gives_headers, gives_reject, gives_fee_filter, gives_send_cmpct, gives_get_block_txn, gives_get_proof, gives_raw};
+ghost use Rattle.hns_rows.specs.Rows.{answered, encoded_row};
+
+#[unsafe(no_mangle)]
+pub extern "C" fn hns_write_empty(out: &mut [u8], answer: &mut [u64])
+    ensures answer_after { answer.new ≡ answered answer.old (encoded_row (gives_empty out.old).answer) }
+    ensures out_after { out.new ≡ (gives_empty out.old).output }
+{
+    hns_ffi_writers::hns_write_empty(out, answer);
+}
+
+#[unsafe(no_mangle)]
+pub extern "C" fn hns_write_nonce(nonce: u64, out: &mut [u8], answer: &mut [u64])
+    ensures answer_after { answer.new ≡ answered answer.old (encoded_row (gives_nonce nonce out.old).answer) }
+    ensures out_after { out.new ≡ (gives_nonce nonce out.old).output }
+{
+    hns_ffi_writers::hns_write_nonce(nonce, out, answer);
+}
+
+#[unsafe(no_mangle)]
+pub extern "C" fn hns_write_addr(items: &[u8], out: &mut [u8], answer: &mut [u64])
+    ensures answer_after { answer.new ≡ answered answer.old (encoded_row (gives_addr items.now out.old).answer) }
+    ensures out_after { out.new ≡ (gives_addr items.now out.old).output }
+{
+    hns_ffi_writers::hns_write_addr(items, out, answer);
+}
+
+#[unsafe(no_mangle)]
+pub extern "C" fn hns_write_inventory(items: &[u8], out: &mut [u8], answer: &mut [u64])
+    ensures answer_after { answer.new ≡ answered answer.old (encoded_row (gives_inventory items.now out.old).answer) }
+    ensures out_after { out.new ≡ (gives_inventory items.now out.old).output }
+{
+    hns_ffi_writers::hns_write_inventory(items, out, answer);
+}
+
+#[unsafe(no_mangle)]
+pub extern "C" fn hns_write_locator(hashes: &[u8], stop: &[u8], out: &mut [u8], answer: &mut [u64])
+    ensures answer_after { answer.new ≡ answered answer.old (encoded_row (gives_locator hashes.now (raw_at 32 stop.now 0) out.old).answer) }
+    ensures out_after { out.new ≡ (gives_locator hashes.now (raw_at 32 stop.now 0) out.old).output }
+{
+    hns_ffi_writers::hns_write_locator(hashes, stop, out, answer);
+}
+
+#[unsafe(no_mangle)]
+pub extern "C" fn hns_write_headers(items: &[u8], out: &mut [u8], answer: &mut [u64])
+    ensures answer_after { answer.new ≡ answered answer.old (encoded_row (gives_headers items.now out.old).answer) }
+    ensures out_after { out.new ≡ (gives_headers items.now out.old).output }
+{
+    hns_ffi_writers::hns_write_headers(items, out, answer);
+}
+
+#[unsafe(no_mangle)]
+pub extern "C" fn hns_write_reject(
+    message: u8,
+    code: u8,
+    reason: &[u8],
+    present: bool,
+    hash: &[u8],
+    out: &mut [u8],
+    answer: &mut [u64],
+)
+    ensures answer_after { answer.new ≡ answered answer.old (encoded_row (gives_reject message code reason.now present (raw_at 32 hash.now 0) out.old).answer) }
+    ensures out_after { out.new ≡ (gives_reject message code reason.now present (raw_at 32 hash.now 0) out.old).output }
+{
+    hns_ffi_writers::hns_write_reject(message, code, reason, present, hash, out, answer);
+}
+
+#[unsafe(no_mangle)]
+pub extern "C" fn hns_write_feefilter(rate: i64, out: &mut [u8], answer: &mut [u64])
+    ensures answer_after { answer.new ≡ answered answer.old (encoded_row (gives_fee_filter rate out.old).answer) }
+    ensures out_after { out.new ≡ (gives_fee_filter rate out.old).output }
+{
+    hns_ffi_writers::hns_write_feefilter(rate, out, answer);
+}
+
+#[unsafe(no_mangle)]
+pub extern "C" fn hns_write_sendcmpct(mode: u8, version: u64, out: &mut [u8], answer: &mut [u64])
+    ensures answer_after { answer.new ≡ answered answer.old (encoded_row (gives_send_cmpct mode version out.old).answer) }
+    ensures out_after { out.new ≡ (gives_send_cmpct mode version out.old).output }
+{
+    hns_ffi_writers::hns_write_sendcmpct(mode, version, out, answer);
+}
+
+#[unsafe(no_mangle)]
+pub extern "C" fn hns_write_getblocktxn(
+    hash: &[u8],
+    indexes: &[u64],
+    out: &mut [u8],
+    answer: &mut [u64],
+)
+    ensures answer_after { answer.new ≡ answered answer.old (encoded_row (gives_get_block_txn (raw_at 32 hash.now 0) indexes.now out.old).answer) }
+    ensures out_after { out.new ≡ (gives_get_block_txn (raw_at 32 hash.now 0) indexes.now out.old).output }
+{
+    hns_ffi_writers::hns_write_getblocktxn(hash, indexes, out, answer);
+}
+
+#[unsafe(no_mangle)]
+pub extern "C" fn hns_write_getproof(root: &[u8], key: &[u8], out: &mut [u8], answer: &mut [u64])
+    ensures answer_after { answer.new ≡ answered answer.old (encoded_row (gives_get_proof (raw_at 32 root.now 0) (raw_at 32 key.now 0) out.old).answer) }
+    ensures out_after { out.new ≡ (gives_get_proof (raw_at 32 root.now 0) (raw_at 32 key.now 0) out.old).output }
+{
+    hns_ffi_writers::hns_write_getproof(root, key, out, answer);
+}
+
+#[unsafe(no_mangle)]
+pub extern "C" fn hns_write_raw(payload: &[u8], out: &mut [u8], answer: &mut [u64])
+    ensures answer_after { answer.new ≡ answered answer.old (encoded_row (gives_raw payload.now out.old).answer) }
+    ensures out_after { out.new ≡ (gives_raw payload.now out.old).output }
+{
+    hns_ffi_writers::hns_write_raw(payload, out, answer);
+}
+
+#[unsafe(no_mangle)]
+pub extern "C" fn hns_write_version(
+    version: u32,
+    services: u64,
+    time: u64,
+    remote_time: u64,
+    remote_services: u64,
+    ip_first: u64,
+    ip_last: u64,
+    port: u16,
+    key: &[u8],
+    nonce: u64,
+    agent: &[u8],
+    height: u32,
+    no_relay: bool,
+    out: &mut [u8],
+    answer: &mut [u64],
+)
+    ensures answer_after { answer.new ≡ answered answer.old (encoded_row (gives_version (version_fields_in key.now (record { version = version; services = services; time = time; remote = record { time = remote_time; services = remote_services; ip_first = ip_first; ip_last = ip_last; port = port; key = 0 }; nonce = nonce; agent = record { start = 0; length = 0 }; height = height; no_relay = no_relay })) agent.now out.old).answer) }
+    ensures out_after { out.new ≡ (gives_version (version_fields_in key.now (record { version = version; services = services; time = time; remote = record { time = remote_time; services = remote_services; ip_first = ip_first; ip_last = ip_last; port = port; key = 0 }; nonce = nonce; agent = record { start = 0; length = 0 }; height = height; no_relay = no_relay })) agent.now out.old).output }
+{
+    hns_ffi_writers::hns_write_version(
+        version,
+        services,
+        time,
+        remote_time,
+        remote_services,
+        ip_first,
+        ip_last,
+        port,
+        key,
+        nonce,
+        agent,
+        height,
+        no_relay,
+        out,
+        answer,
+    );
+}

@@ -1,0 +1,19 @@
+-- `NetworkMagic::as_bytes` meets its contract: each byte string is the network's magic.
+use Rattle.hns_p2p_frame.specs.Frame.{magic}
+use Rattle.hns_p2p_frame.proofs.NetworkMagic.as_bytes.Goals as goal
+
+pub returns-in-Mainnet : goal.returns-in-Mainnet
+unfolding magic
+returns-in-Mainnet c = rw c.in-Mainnet.is
+
+pub returns-in-Testnet : goal.returns-in-Testnet
+unfolding magic
+returns-in-Testnet c = rw c.in-Testnet.is
+
+pub returns-in-Regtest : goal.returns-in-Regtest
+unfolding magic
+returns-in-Regtest c = rw c.in-Regtest.is
+
+pub returns-in-Simnet : goal.returns-in-Simnet
+unfolding magic
+returns-in-Simnet c = rw c.in-Simnet.is

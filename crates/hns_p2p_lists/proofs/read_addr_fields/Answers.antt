@@ -1,0 +1,16 @@
+use mathlib.Core.Path.{ap, ◌∙◌}
+use Rattle.hns_encoding.proofs.Numbers.{bytes_known}
+use Rattle.hns_p2p_types.specs.Protocol.{address}
+use Rattle.hns_p2p_types.specs.Packets.{row, rows}
+use Rattle.hns_p2p_types.specs.Packets.{fields_of}
+use Rattle.hns_p2p_lists.specs.Helpers.{list_kind}
+use Rattle.hns_p2p_lists.specs.Helpers.{list_packet}
+use Rattle.hns_p2p_lists.proofs.Listed.{list_answer}
+use Rattle.hns_p2p_lists.proofs.read_addr_fields.Goals as goal
+
+pub returns : goal.returns
+unfolding fields_of row rows list_kind
+returns c =
+    let s = c.args.payload.now in
+    let bs = bytes_known s (λ i. (c.shared_slice_known-1.given i).fits) in
+    c.list_packet.ensures ∙ (ap (list_packet 5 s) c.read_list.ensures ∙ list_answer 5 1000 1 address _ s bs)

@@ -1,0 +1,12 @@
+-- `survey_export::put_payload` meets its contract: nothing for an empty payload, else a space and its digits.
+use Rattle.hns_encoding.proofs.Puts.{put_none}
+use Rattle.survey_export.proofs.Parts.{payload_none, payload_some}
+use Rattle.hns_encoding.proofs.Puts.{◌⨟◌}
+use native.Mathlib.Omega.{arith}
+use Rattle.survey_export.proofs.put_payload.Goals as goal
+
+pub returns-then-payload-eq0 : goal.returns-then-payload-eq0
+returns-then-payload-eq0 c = rw (payload_none _ c.if-payload-eq0.true) (put_none _ _ (omega arith))
+
+pub returns : goal.returns
+returns c = rw (payload_some _ c.if-payload-eq0.false) ((c.put_u8-e.ensures ⨟ (λ h. c.put_hex.ensures)) (omega arith))
