@@ -6,7 +6,6 @@ use lib.ListN.{length}
 use Rattle.hns_refusals.specs.declared.Refusal.{Refusal}
 use Rattle.hns_encoding.specs.Put.{Put}
 use Rattle.hns_p2p_frame.specs.declared.Encoded.TheVariants as E
-use Rattle.hns_p2p_frame.specs.Frame.{Written}
 use Rattle.hns_refusals.specs.declared.Checked.{Checked}
 use Rattle.hns_refusals.specs.declared.Checked.TheVariants as C
 use Rattle.hns_p2p_plans.specs.declared.Plan.{Plan}

@@ -1,0 +1,11 @@
+use native.Mathlib.Omega.{arith}
+use Rattle.hns_encoding.specs.Format.{write}
+use Rattle.hns_encoding.proofs.Puts.{◌⨟◌}
+use Rattle.hns_p2p_block_puts.proofs.put_getproof.Goals as goal
+
+pub returns : goal.returns
+unfolding write
+returns c =
+    (c.put_array32-e.ensures
+    ⨟ (λ h. c.put_array32.ensures))
+    (omega arith)

@@ -1,0 +1,12 @@
+use native.Mathlib.Omega.{arith}
+use Rattle.hns_encoding.specs.Format.{write}
+use Rattle.hns_encoding.proofs.Puts.{put_none}
+use Rattle.hns_p2p_block_puts.proofs.put_hash.Goals as goal
+
+pub returns-then-carries : goal.returns-then-carries
+unfolding write
+returns-then-carries c = rw c.if-carries.true c.put_array32.ensures
+
+pub returns : goal.returns
+unfolding write
+returns c = rw c.if-carries.false (put_none _ _ (omega arith))

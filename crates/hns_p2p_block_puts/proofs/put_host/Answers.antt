@@ -1,0 +1,12 @@
+use native.Mathlib.Omega.{arith}
+use Rattle.hns_encoding.specs.Format.{write}
+use Rattle.hns_encoding.proofs.Puts.{◌⨟◌}
+use Rattle.hns_p2p_block_puts.proofs.put_host.Goals as goal
+
+pub returns : goal.returns
+unfolding write
+returns c =
+    (c.put_u8-e.ensures
+    ⨟ c.put_bytes-e.ensures
+    ⨟ (λ h. c.put_bytes.ensures))
+    (omega arith)

@@ -1,0 +1,30 @@
+use native.Mathlib.Omega.{arith}
+use Rattle.hns_p2p_list_puts.proofs.Rests.{all_left, one_put, none_left}
+use Rattle.hns_p2p_list_puts.proofs.Items.{flat_start, flat_here, flat_end}
+use Rattle.hns_p2p_list_puts.proofs.put_addresses.Goals as goal
+
+pub loop-i-init : goal.loop-i-init
+loop-i-init c = (omega arith, omega arith, all_left _ _ (flat_start _ _ _) (omega arith) (omega arith))
+
+pub put_address_at-e-requires : goal.put_address_at-e-requires
+put_address_at-e-requires c = omega arith
+
+pub overflow_add-at : goal.overflow_add-at
+overflow_add-at c = omega arith
+
+pub overflow_add-i : goal.overflow_add-i
+overflow_add-i c = omega arith
+
+pub loop-i-smaller : goal.loop-i-smaller
+loop-i-smaller c = omega arith
+
+pub loop-i-preserved : goal.loop-i-preserved
+loop-i-preserved c =
+    let l = c.loop-i in
+    (omega arith, omega arith, one_put l.invariant.2 (flat_here _ _ _ _ c.loop-i-test.true) c.put_address_at-e.ensures)
+
+pub shape_of-out : goal.shape_of-out
+shape_of-out c = c.loop-i.invariant.2.long
+
+pub returns : goal.returns
+returns c = none_left c.loop-i.invariant.2 (flat_end _ _ _ _ c.loop-i-test.false)
