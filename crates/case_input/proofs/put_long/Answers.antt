@@ -12,5 +12,5 @@ returns c = record {
       (short _ _ c.first-2.ensures)
       c.new.ensures
       c.put_bytes.ensures
-      c.put_bytes-2.ensures
+      c.put_bytes-2.ensures;
 }
