@@ -1,12 +1,13 @@
-//! Cases of test programs: a line of standard input is a case in hexadecimal. There are no functions as values, so a program
-//! asks for one case after the other, and the loop over them is its own.
+//! Cases of test programs: a line of an input is a case in hexadecimal. A program asks for one case after the other, and the
+//! loop over them is its own. A read that fails is answered as the error that it gave.
 #![tactic(auto)]
 
-ghost use Rattle.std.specs.Prelude.{◌≡◌, ◌-◌, ◌<◌, ◌≤◌, length, drop};
+ghost use Rattle.std.specs.Prelude.{◌≡◌, ◌-◌, ◌<◌, ◌≤◌, length, drop, IfOk};
 ghost use Rattle.hns_encoding.specs.Bytes.{number_at};
 ghost use Rattle.case_input.specs.Zeros.{Zeros, Around, Cleared};
 
 use hns_encoder::Encoder;
+use std::io::{self, Read};
 
 // How far the input is taken.
 #[derive(Clone, Copy)]
@@ -25,21 +26,36 @@ pub struct Lines {
     at: usize,
 }
 
-// Reads on, into the whole buffer.
-fn read_on(lines: Lines, buffer: &mut [u8]) -> Lines
-    requires { 0 < lines.left }
-    ensures { (result.left ≤ lines.left - 1) × (result.size ≡ lines.size) }
+// Reads until the buffer is full or the input ends, and answers how many bytes that gave.
+fn fill(input: &mut impl Read, buffer: &mut [u8]) -> io::Result<usize>
+    ensures { IfOk result (λ n. n ≤ length buffer.old) }
 {
-    let filled = io::read_full(0, buffer);
+    let mut filled: usize = 0;
+    while filled < buffer.len() {
+        let n = input.read(&mut buffer[filled..])?;
+        if n == 0 {
+            return Ok(filled);
+        }
+        filled += n;
+    }
+    Ok(filled)
+}
+
+// Reads on, into the whole buffer.
+fn read_on(lines: Lines, input: &mut impl Read, buffer: &mut [u8]) -> io::Result<Lines>
+    requires { 0 < lines.left }
+    ensures { IfOk result (λ next. (next.left ≤ lines.left - 1) × (next.size ≡ lines.size)) }
+{
+    let filled = fill(input, buffer)?;
     let left = if filled == 0 { 0 } else { lines.left - 1 };
-    Lines {
+    Ok(Lines {
         left,
         size: lines.size,
         half: lines.half,
         whole: false,
         filled,
         at: 0,
-    }
+    })
 }
 
 // Takes a digit: two make a byte. One that there is no room for is passed over.
@@ -64,13 +80,18 @@ fn take_digit(lines: Lines, digit: u8, case: &mut [u8]) -> Lines
 }
 
 // Takes the next byte of the buffer, which is filled again where there is none.
-fn step(lines: Lines, buffer: &mut [u8], case: &mut [u8]) -> Lines
+fn step(
+    lines: Lines,
+    input: &mut impl Read,
+    buffer: &mut [u8],
+    case: &mut [u8],
+) -> io::Result<Lines>
     requires { (0 < lines.left) × (lines.size ≤ length case.old) }
-    ensures { (result.left ≤ lines.left - 1) × (result.size ≤ length case.old) }
+    ensures { IfOk result (λ next. (next.left ≤ lines.left - 1) × (next.size ≤ length case.old)) }
 {
     let at = lines.at;
     if lines.filled <= at {
-        return read_on(lines, buffer);
+        return read_on(lines, input, buffer);
     }
     let byte = hns_encoding::u8_at(buffer, at);
     let mut next = lines;
@@ -78,30 +99,35 @@ fn step(lines: Lines, buffer: &mut [u8], case: &mut [u8]) -> Lines
     next.left -= 1;
     if byte == 10 {
         next.whole = true;
-        return next;
+        return Ok(next);
     }
-    take_digit(next, byte, case)
+    Ok(take_digit(next, byte, case))
 }
 
-// The next case, where steps are left. The buffer is the one that was lent before, as it was left.
-pub fn next_case(lines: Lines, buffer: &mut [u8], case: &mut [u8]) -> Lines
-    ensures { (result.left ≤ lines.left - 1) × (result.size ≤ length case.old) }
+// The next case, where steps are left. The input and the buffer are those that were lent before, as they were left.
+pub fn next_case(
+    lines: Lines,
+    input: &mut impl Read,
+    buffer: &mut [u8],
+    case: &mut [u8],
+) -> io::Result<Lines>
+    ensures { IfOk result (λ next. (next.left ≤ lines.left - 1) × (next.size ≤ length case.old)) }
 {
     let mut now = lines;
     now.size = 0;
     now.half = false;
     now.whole = false;
     while 0 < now.left {
-        now = step(now, buffer, case);
+        now = step(now, input, buffer, case)?;
         if now.whole {
-            return now;
+            return Ok(now);
         }
     }
-    now
+    Ok(now)
 }
 
-pub fn first_case(buffer: &mut [u8], case: &mut [u8]) -> Lines
-    ensures { result.size ≤ length case.old }
+pub fn first_case(input: &mut impl Read, buffer: &mut [u8], case: &mut [u8]) -> io::Result<Lines>
+    ensures { IfOk result (λ first. first.size ≤ length case.old) }
 {
     let before = Lines {
         left: 18_446_744_073_709_551_615,
@@ -111,7 +137,7 @@ pub fn first_case(buffer: &mut [u8], case: &mut [u8]) -> Lines
         filled: 0,
         at: 0,
     };
-    next_case(before, buffer, case)
+    next_case(before, input, buffer, case)
 }
 
 // Where the zeros of a long case stand, and where it ends.

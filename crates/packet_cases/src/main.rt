@@ -11,6 +11,7 @@ use case_lines::{field, hex, number, refused, signed, text};
 use hns_p2p_types::{
     Found, Hash, Item, Items, LocatorPacket, Packet, RejectPacket, Span, Stored, VersionPacket,
 };
+use std::io::{self, Read};
 
 const FRONT: usize = 10;
 
@@ -23,153 +24,154 @@ const ROOM: usize = 20_000;
 // Bytes of a long case's rest: a hash, and a payload one byte over the limit. The stack of 8 MB has room for one of these.
 const LONG_ROOM: usize = 8_000_033;
 
-fn address(a: hns_p2p_types::NetAddress) {
-    number(a.time);
-    number(a.services);
-    number(a.ip_first);
-    number(a.ip_last);
-    number(a.port as u64);
-    number(a.key as u64);
+fn address(rt: &impl Print, a: hns_p2p_types::NetAddress) -> io::Result<()> {
+    number(rt, a.time)?;
+    number(rt, a.services)?;
+    number(rt, a.ip_first)?;
+    number(rt, a.ip_last)?;
+    number(rt, a.port as u64)?;
+    number(rt, a.key as u64)
 }
 
-fn version(v: VersionPacket) {
-    text(b"version");
-    number(v.version as u64);
-    number(v.services);
-    number(v.time);
+fn version(rt: &impl Print, v: VersionPacket) -> io::Result<()> {
+    text(rt, b"version")?;
+    number(rt, v.version as u64)?;
+    number(rt, v.services)?;
+    number(rt, v.time)?;
     let remote = v.remote;
-    address(remote);
-    number(v.nonce);
+    address(rt, remote)?;
+    number(rt, v.nonce)?;
     let agent = v.agent;
-    number(agent.start as u64);
-    number(agent.length as u64);
-    number(v.height as u64);
+    number(rt, agent.start as u64)?;
+    number(rt, agent.length as u64)?;
+    number(rt, v.height as u64)?;
     if v.no_relay {
-        number(1);
+        number(rt, 1)
     } else {
-        number(0);
+        number(rt, 0)
     }
 }
 
-fn reject(r: RejectPacket) {
-    text(b"reject");
-    number(r.message as u64);
-    number(r.code as u64);
+fn reject(rt: &impl Print, r: RejectPacket) -> io::Result<()> {
+    text(rt, b"reject")?;
+    number(rt, r.message as u64)?;
+    number(rt, r.code as u64)?;
     let reason = r.reason;
-    number(reason.start as u64);
-    number(reason.length as u64);
+    number(rt, reason.start as u64)?;
+    number(rt, reason.length as u64)?;
     let hash = r.hash;
     match hash {
-        Hash::At(place) => number(place as u64),
-        Hash::Absent => text(b" -"),
+        Hash::At(place) => number(rt, place as u64),
+        Hash::Absent => text(rt, b" -"),
     }
 }
 
-fn listed(name: &[u8], items: Items) {
-    text(name);
-    number(items.count as u64);
-    number(items.first as u64);
+fn listed(rt: &impl Print, name: &[u8], items: Items) -> io::Result<()> {
+    text(rt, name)?;
+    number(rt, items.count as u64)?;
+    number(rt, items.first as u64)
 }
 
-fn locator(name: &[u8], packet: LocatorPacket) {
+fn locator(rt: &impl Print, name: &[u8], packet: LocatorPacket) -> io::Result<()> {
     let items = packet.locator;
-    listed(name, items);
-    number(packet.stop as u64);
+    listed(rt, name, items)?;
+    number(rt, packet.stop as u64)
 }
 
-fn raw(packet_type: u64, span: Span) {
-    text(b"raw");
-    number(packet_type);
-    number(span.start as u64);
-    number(span.length as u64);
+fn raw(rt: &impl Print, packet_type: u64, span: Span) -> io::Result<()> {
+    text(rt, b"raw")?;
+    number(rt, packet_type)?;
+    number(rt, span.start as u64)?;
+    number(rt, span.length as u64)
 }
 
 // The packets of lists and raw bytes; the others are printed by `show`.
-fn show_rest(packet: Packet) {
+fn show_rest(rt: &impl Print, packet: Packet) -> io::Result<()> {
     match packet {
-        Packet::Addr(items) => listed(b"addr", items),
-        Packet::Inv(items) => listed(b"inv", items),
-        Packet::GetData(items) => listed(b"getdata", items),
-        Packet::NotFound(items) => listed(b"notfound", items),
-        Packet::Headers(items) => listed(b"headers", items),
-        Packet::GetBlocks(packet) => locator(b"getblocks", packet),
-        Packet::GetHeaders(packet) => locator(b"getheaders", packet),
-        Packet::Block(span) => raw(13, span),
-        Packet::Tx(span) => raw(14, span),
-        Packet::FilterLoad(span) => raw(17, span),
-        Packet::FilterAdd(span) => raw(18, span),
-        Packet::MerkleBlock(span) => raw(20, span),
-        Packet::CmpctBlock(span) => raw(23, span),
-        Packet::BlockTxn(span) => raw(25, span),
-        Packet::Proof(span) => raw(27, span),
-        Packet::Claim(span) => raw(28, span),
-        Packet::Airdrop(span) => raw(29, span),
+        Packet::Addr(items) => listed(rt, b"addr", items),
+        Packet::Inv(items) => listed(rt, b"inv", items),
+        Packet::GetData(items) => listed(rt, b"getdata", items),
+        Packet::NotFound(items) => listed(rt, b"notfound", items),
+        Packet::Headers(items) => listed(rt, b"headers", items),
+        Packet::GetBlocks(packet) => locator(rt, b"getblocks", packet),
+        Packet::GetHeaders(packet) => locator(rt, b"getheaders", packet),
+        Packet::Block(span) => raw(rt, 13, span),
+        Packet::Tx(span) => raw(rt, 14, span),
+        Packet::FilterLoad(span) => raw(rt, 17, span),
+        Packet::FilterAdd(span) => raw(rt, 18, span),
+        Packet::MerkleBlock(span) => raw(rt, 20, span),
+        Packet::CmpctBlock(span) => raw(rt, 23, span),
+        Packet::BlockTxn(span) => raw(rt, 25, span),
+        Packet::Proof(span) => raw(rt, 27, span),
+        Packet::Claim(span) => raw(rt, 28, span),
+        Packet::Airdrop(span) => raw(rt, 29, span),
         Packet::Unknown {
             packet_type,
             payload,
-        } => raw(packet_type as u64, payload),
-        _ => text(b"?"),
+        } => raw(rt, packet_type as u64, payload),
+        _ => text(rt, b"?"),
     }
 }
 
-fn show(packet: Packet) {
+fn show(rt: &impl Print, packet: Packet) -> io::Result<()> {
     match packet {
-        Packet::Version(v) => version(v),
-        Packet::Verack => text(b"verack"),
-        Packet::Ping(nonce) => field(b"ping", nonce),
-        Packet::Pong(nonce) => field(b"pong", nonce),
-        Packet::GetAddr => text(b"getaddr"),
-        Packet::SendHeaders => text(b"sendheaders"),
-        Packet::Reject(r) => reject(r),
-        Packet::Mempool => text(b"mempool"),
-        Packet::FilterClear => text(b"filterclear"),
+        Packet::Version(v) => version(rt, v),
+        Packet::Verack => text(rt, b"verack"),
+        Packet::Ping(nonce) => field(rt, b"ping", nonce),
+        Packet::Pong(nonce) => field(rt, b"pong", nonce),
+        Packet::GetAddr => text(rt, b"getaddr"),
+        Packet::SendHeaders => text(rt, b"sendheaders"),
+        Packet::Reject(r) => reject(rt, r),
+        Packet::Mempool => text(rt, b"mempool"),
+        Packet::FilterClear => text(rt, b"filterclear"),
         Packet::FeeFilter(rate) => {
-            text(b"feefilter");
-            signed(rate);
+            text(rt, b"feefilter")?;
+            signed(rt, rate)
         }
         Packet::SendCmpct { mode, version } => {
-            field(b"sendcmpct", mode as u64);
-            number(version);
+            field(rt, b"sendcmpct", mode as u64)?;
+            number(rt, version)
         }
         Packet::GetBlockTxn(request) => {
-            field(b"getblocktxn", request.block_hash as u64);
+            field(rt, b"getblocktxn", request.block_hash as u64)?;
             let indexes = request.indexes;
-            listed(b"", indexes);
+            listed(rt, b"", indexes)
         }
         Packet::GetProof(packet) => {
-            field(b"getproof", packet.root as u64);
-            number(packet.key as u64);
+            field(rt, b"getproof", packet.root as u64)?;
+            number(rt, packet.key as u64)
         }
-        Packet::Refused(refusal) => refused(refusal),
-        _ => show_rest(packet),
+        Packet::Refused(refusal) => refused(rt, refusal),
+        _ => show_rest(rt, packet),
     }
 }
 
-fn ask_packet(packet_type: u8, payload: &[u8], out: &mut [u8]) {
+fn ask_packet(rt: &impl Print, packet_type: u8, payload: &[u8], out: &mut [u8]) -> io::Result<()> {
     let no_terms = [0u64; 0];
     let packet = hns_p2p_packet::read_packet(&no_terms, packet_type, payload, out);
-    show(packet);
-    text(b" text");
+    show(rt, packet)?;
+    text(rt, b" text")?;
     if 0 < out.len() {
-        hex(out);
+        hex(rt, out)?;
     }
+    Ok(())
 }
 
-fn ask_item(packet_type: u8, payload: &[u8], place: usize) {
+fn ask_item(rt: &impl Print, packet_type: u8, payload: &[u8], place: usize) -> io::Result<()> {
     let no_terms = [0u64; 0];
     match hns_p2p_items::item(&no_terms, packet_type, payload, place) {
         Item::Address(a) => {
-            text(b"address");
-            address(a);
+            text(rt, b"address")?;
+            address(rt, a)
         }
         Item::Inventory { kind, hash } => {
-            field(b"inventory", kind as u64);
-            number(hash as u64);
+            field(rt, b"inventory", kind as u64)?;
+            number(rt, hash as u64)
         }
-        Item::Hash(place) => field(b"hash", place as u64),
-        Item::Header(place) => field(b"header", place as u64),
-        Item::Index(index) => field(b"index", index),
-        Item::Refused(refusal) => refused(refusal),
+        Item::Hash(place) => field(rt, b"hash", place as u64),
+        Item::Header(place) => field(rt, b"header", place as u64),
+        Item::Index(index) => field(rt, b"index", index),
+        Item::Refused(refusal) => refused(rt, refusal),
     }
 }
 
@@ -187,109 +189,132 @@ fn stands(payload: &[u8], at: usize, hash: &[u8]) -> bool {
 }
 
 // Document 01 leaves open which place is answered: the hash must stand there.
-fn ask_find(packet_type: u8, payload: &[u8], hash: [u8; 32]) {
+fn ask_find(rt: &impl Print, packet_type: u8, payload: &[u8], hash: [u8; 32]) -> io::Result<()> {
     let no_terms = [0u64; 0];
     match hns_p2p_find::find(&no_terms, packet_type, payload, hash) {
-        Found::Nowhere => text(b"nowhere"),
-        Found::Refused(refusal) => refused(refusal),
+        Found::Nowhere => text(rt, b"nowhere"),
+        Found::Refused(refusal) => refused(rt, refusal),
         Found::At(place) => {
-            text(b"found");
+            text(rt, b"found")?;
             let found = hns_p2p_items::item(&no_terms, packet_type, payload, place);
             if let Item::Inventory { kind: _, hash: at } = found {
                 if stands(payload, at, &hash) {
-                    return;
+                    return Ok(());
                 }
             }
-            text(b" wrong");
+            text(rt, b" wrong")
         }
     }
 }
 
 // What is stored, and what stands after it.
-fn numbers(values: &[u64], stored: usize) {
+fn numbers(rt: &impl Print, values: &[u64], stored: usize) -> io::Result<()> {
     let mut i = 0;
     while i < values.len() {
         if i == stored {
-            text(b" rest");
+            text(rt, b" rest")?;
         }
-        number(values[i]);
+        number(rt, values[i])?;
         i += 1;
     }
     if stored == values.len() {
-        text(b" rest");
+        text(rt, b" rest")?;
     }
+    Ok(())
 }
 
-fn ask_indexes(payload: &[u8], out: &mut [u64]) {
+fn ask_indexes(rt: &impl Print, payload: &[u8], out: &mut [u64]) -> io::Result<()> {
     let no_terms = [0u64; 0];
     let stored = match hns_p2p_indexes::indexes(&no_terms, payload, out) {
         Stored::Refused(refusal) => {
-            refused(refusal);
+            refused(rt, refusal)?;
             0
         }
         Stored::Count(count) => {
-            field(b"indexes", count as u64);
+            field(rt, b"indexes", count as u64)?;
             count
         }
     };
-    numbers(out, stored);
+    numbers(rt, out, stored)
 }
 
-fn ask(asked: u8, packet_type: u8, n: usize, rest: &[u8]) {
+fn ask(rt: &impl Print, asked: u8, packet_type: u8, n: usize, rest: &[u8]) -> io::Result<()> {
     if asked == 0 {
         let mut out = [0xaau8; 320];
         if n <= 320 {
-            ask_packet(packet_type, rest, &mut out[..n]);
+            ask_packet(rt, packet_type, rest, &mut out[..n])?;
         }
     } else if asked == 1 {
-        ask_item(packet_type, rest, n);
+        ask_item(rt, packet_type, rest, n)?;
     } else if asked == 3 {
         let mut out = [7u64; 64];
         if n <= 64 {
-            ask_indexes(rest, &mut out[..n]);
+            ask_indexes(rt, rest, &mut out[..n])?;
         }
     } else if 32 <= rest.len() {
         let hash = hns_encoder::array32_at(rest, 0);
-        ask_find(packet_type, &rest[32..], hash);
+        ask_find(rt, packet_type, &rest[32..], hash)?;
     }
+    Ok(())
 }
 
-fn ask_long(asked: u8, packet_type: u8, n: usize, rest: &[u8], long: &mut [u8]) {
+fn ask_long(
+    rt: &impl Print,
+    asked: u8,
+    packet_type: u8,
+    n: usize,
+    rest: &[u8],
+    long: &mut [u8],
+) -> io::Result<()> {
     let before = hns_encoding::u64_at(rest, 0) as usize;
     let zeros = hns_encoding::u64_at(rest, 8) as usize;
     let given = hns_p2p_fields::from_place(rest, LONG_FRONT);
     let put = case_input::put_long(given, before, zeros, long);
-    ask(asked, packet_type, n, hns_encoding::first(long, put.size));
+    ask(
+        rt,
+        asked,
+        packet_type,
+        n,
+        hns_encoding::first(long, put.size),
+    )?;
     case_input::clear_long(put, long);
+    Ok(())
 }
 
-fn answer(case: &[u8], long: &mut [u8]) {
+fn answer(rt: &impl Print, case: &[u8], long: &mut [u8]) -> io::Result<()> {
     if case.len() < FRONT {
-        return;
+        return Ok(());
     }
     let asked = hns_encoding::u8_at(case, 0);
     let packet_type = hns_encoding::u8_at(case, 1);
     let n = hns_encoding::u64_at(case, 2) as usize;
     let rest = &case[FRONT..];
     if asked < 4 {
-        ask(asked, packet_type, n, rest);
-        return;
+        return ask(rt, asked, packet_type, n, rest);
     }
-    ask_long(asked - 4, packet_type, n, rest, long);
+    ask_long(rt, asked - 4, packet_type, n, rest, long)
 }
 
-fn run(buffer: &mut [u8], case: &mut [u8], long: &mut [u8]) {
-    let mut lines = case_input::first_case(buffer, case);
+fn run(
+    rt: &impl Print,
+    input: &mut impl Read,
+    buffer: &mut [u8],
+    case: &mut [u8],
+    long: &mut [u8],
+) -> io::Result<()> {
+    let mut lines = case_input::first_case(input, buffer, case)?;
     while 0 < lines.left {
-        answer(hns_encoding::first(case, lines.size), long);
-        case_lines::end_line();
-        lines = case_input::next_case(lines, buffer, case);
+        answer(rt, hns_encoding::first(case, lines.size), long)?;
+        case_lines::end_line(rt)?;
+        lines = case_input::next_case(lines, input, buffer, case)?;
     }
+    Ok(())
 }
 
-fn main() {
-    let mut buffer = io::large_buffer();
+fn main(rt: HostRuntime) -> io::Result<()> {
+    let mut input = rt.stdin();
+    let mut buffer = [0u8; 65_536];
     let mut case = [0u8; ROOM];
     let mut long = [0u8; LONG_ROOM];
-    run(&mut buffer, &mut case, &mut long);
+    run(&rt, &mut input, &mut buffer, &mut case, &mut long)
 }

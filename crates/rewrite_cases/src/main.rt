@@ -10,6 +10,7 @@ use case_lines::{field, refused, text};
 use hns_encoder::Encoder;
 use hns_p2p_fields::from_place;
 use hns_p2p_frame::Encoded;
+use std::io::{self, Read};
 
 // The type and the four numbers.
 const FRONT: usize = 17;
@@ -26,10 +27,11 @@ const OUT_ROOM: usize = 88_100;
 // The longest encoding that is shown whole, as every version and reject is. Of a longer one the two ends are shown.
 const WHOLE: usize = 400;
 
-fn hex(bytes: &[u8]) {
+fn hex(rt: &impl Print, bytes: &[u8]) -> io::Result<()> {
     if 0 < bytes.len() {
-        case_lines::hex(bytes);
+        case_lines::hex(rt, bytes)?;
     }
+    Ok(())
 }
 
 // What an output holds before the call. No byte is zero, since what is not kept is written as zero.
@@ -57,34 +59,34 @@ fn sum(bytes: &[u8]) -> u64 {
 }
 
 // What was written, some bytes behind it, and the sum of the whole output.
-fn show(out: &[u8], written: usize) {
+fn show(rt: &impl Print, out: &[u8], written: usize) -> io::Result<()> {
     let bytes = hns_encoding::first(out, written);
     if bytes.len() <= WHOLE {
-        hex(bytes);
+        hex(rt, bytes)?;
     } else {
-        hex(hns_encoding::first(bytes, 64));
-        text(b" to");
-        hex(from_place(bytes, bytes.len() - 8));
+        hex(rt, hns_encoding::first(bytes, 64))?;
+        text(rt, b" to")?;
+        hex(rt, from_place(bytes, bytes.len() - 8))?;
     }
-    text(b" behind");
-    hex(hns_encoding::first(from_place(out, written), 8));
-    field(b" sum", sum(out));
+    text(rt, b" behind")?;
+    hex(rt, hns_encoding::first(from_place(out, written), 8))?;
+    field(rt, b" sum", sum(out))
 }
 
-fn ask(packet_type: u8, payload: &[u8], out: &mut [u8]) {
+fn ask(rt: &impl Print, packet_type: u8, payload: &[u8], out: &mut [u8]) -> io::Result<()> {
     fill(out);
     let no_terms = [0u64; 0];
     let written = match hns_p2p_rewrite::rewrite(&no_terms, packet_type, payload, out) {
         Encoded::Refused(why) => {
-            refused(why);
+            refused(rt, why)?;
             0
         }
         Encoded::Written(n) => {
-            field(b"written", n as u64);
+            field(rt, b"written", n as u64)?;
             n
         }
     };
-    show(out, written);
+    show(rt, out, written)
 }
 
 fn put_run(encoder: Encoder, out: &mut [u8], piece: &[u8], times: usize) -> Encoder {
@@ -111,34 +113,52 @@ fn put_payload(case: &[u8], payload: &mut [u8]) -> usize {
 }
 
 // Nothing is asked where the payload or the output is longer than there is room for.
-fn answer(case: &[u8], payload: &mut [u8], out: &mut [u8]) {
+fn answer(rt: &impl Print, case: &[u8], payload: &mut [u8], out: &mut [u8]) -> io::Result<()> {
     let packet_type = hns_encoding::u8_at(case, 0);
     let size = hns_encoding::u32_at(case, 1) as usize;
     let length = put_payload(case, payload);
     if length <= payload.len() {
         if size <= out.len() {
             ask(
+                rt,
                 packet_type,
                 hns_encoding::first(payload, length),
                 &mut out[..size],
-            );
+            )?;
         }
     }
+    Ok(())
 }
 
-fn run(buffer: &mut [u8], case: &mut [u8], payload: &mut [u8], out: &mut [u8]) {
-    let mut lines = case_input::first_case(buffer, case);
+fn run(
+    rt: &impl Print,
+    input: &mut impl Read,
+    buffer: &mut [u8],
+    case: &mut [u8],
+    payload: &mut [u8],
+    out: &mut [u8],
+) -> io::Result<()> {
+    let mut lines = case_input::first_case(input, buffer, case)?;
     while 0 < lines.left {
-        answer(hns_encoding::first(case, lines.size), payload, out);
-        case_lines::end_line();
-        lines = case_input::next_case(lines, buffer, case);
+        answer(rt, hns_encoding::first(case, lines.size), payload, out)?;
+        case_lines::end_line(rt)?;
+        lines = case_input::next_case(lines, input, buffer, case)?;
     }
+    Ok(())
 }
 
-fn main() {
-    let mut buffer = io::buffer();
+fn main(rt: HostRuntime) -> io::Result<()> {
+    let mut input = rt.stdin();
+    let mut buffer = [0u8; 4_096];
     let mut case = [0u8; ROOM];
     let mut payload = [0u8; PAYLOAD_ROOM];
     let mut out = [0u8; OUT_ROOM];
-    run(&mut buffer, &mut case, &mut payload, &mut out);
+    run(
+        &rt,
+        &mut input,
+        &mut buffer,
+        &mut case,
+        &mut payload,
+        &mut out,
+    )
 }

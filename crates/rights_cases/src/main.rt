@@ -17,6 +17,7 @@ use hns_p2p_frame::Encoded;
 use hns_p2p_rights::Granted;
 use hns_p2p_types::{Items, Listing, Packet, Stored};
 use hns_refusals::{Checked, Refusal};
+use std::io::{self, Read};
 
 // Bytes of a line.
 const ROOM: usize = 2_000;
@@ -104,50 +105,65 @@ fn rewritten(terms: &[u64], packet_type: u8, payload: &[u8], out: &mut [u8]) -> 
     }
 }
 
-fn show(name: &[u8], row: [u64; 16]) {
-    text(name);
-    case_lines::refusal(row);
+fn show(rt: &impl Print, name: &[u8], row: [u64; 16]) -> io::Result<()> {
+    text(rt, name)?;
+    case_lines::refusal(rt, row)
 }
 
-fn ask_indexes(terms: &[u64], payload: &[u8]) {
+fn ask_indexes(rt: &impl Print, terms: &[u64], payload: &[u8]) -> io::Result<()> {
     let mut out = [7u64; 3];
     let row = hns_packet_rows::of_stored(hns_p2p_indexes::indexes(terms, payload, &mut out));
-    show(b" indexes", row);
-    number(out[0]);
-    number(out[1]);
-    number(out[2]);
+    show(rt, b" indexes", row)?;
+    number(rt, out[0])?;
+    number(rt, out[1])?;
+    number(rt, out[2])
 }
 
-fn ask_lent(terms: &[u64], packet_type: u8, payload: &[u8]) {
+fn ask_lent(rt: &impl Print, terms: &[u64], packet_type: u8, payload: &[u8]) -> io::Result<()> {
     let mut agent = [0xaau8; TEXT_ROOM];
     let mut out = [0xaau8; OUT_ROOM];
-    show(b" packet", packet(terms, packet_type, payload, &mut agent));
-    case_lines::hex(&agent);
     show(
+        rt,
+        b" packet",
+        packet(terms, packet_type, payload, &mut agent),
+    )?;
+    case_lines::hex(rt, &agent)?;
+    show(
+        rt,
         b" rewrite",
         rewritten(terms, packet_type, payload, &mut out),
-    );
-    case_lines::hex(&out);
+    )?;
+    case_lines::hex(rt, &out)
 }
 
-fn ask_numbers(terms: &[u64], packet_type: u8, payload: &[u8]) {
+fn ask_numbers(rt: &impl Print, terms: &[u64], packet_type: u8, payload: &[u8]) -> io::Result<()> {
     let mut out = [7u64; NUMBERS_ROOM];
-    show(b" numbers", stored(terms, packet_type, payload, &mut out));
-    case_lines::five(out[0], out[1], out[2], out[3], out[4]);
-    number(out[5]);
-    number(out[6]);
+    show(
+        rt,
+        b" numbers",
+        stored(terms, packet_type, payload, &mut out),
+    )?;
+    case_lines::five(rt, out[0], out[1], out[2], out[3], out[4])?;
+    number(rt, out[5])?;
+    number(rt, out[6])
 }
 
-fn ask_all(terms: &[u64], packet_type: u8, payload: &[u8], place: usize) {
-    show(b"send", sent(terms, packet_type));
-    show(b" sheet", sheet(terms));
-    show(b" read", read(terms, packet_type, payload));
-    show(b" listing", listed(terms, packet_type, payload));
-    show(b" item", item(terms, packet_type, payload, place));
-    show(b" find", found(terms, packet_type, payload));
-    ask_indexes(terms, payload);
-    ask_numbers(terms, packet_type, payload);
-    ask_lent(terms, packet_type, payload);
+fn ask_all(
+    rt: &impl Print,
+    terms: &[u64],
+    packet_type: u8,
+    payload: &[u8],
+    place: usize,
+) -> io::Result<()> {
+    show(rt, b"send", sent(terms, packet_type))?;
+    show(rt, b" sheet", sheet(terms))?;
+    show(rt, b" read", read(terms, packet_type, payload))?;
+    show(rt, b" listing", listed(terms, packet_type, payload))?;
+    show(rt, b" item", item(terms, packet_type, payload, place))?;
+    show(rt, b" find", found(terms, packet_type, payload))?;
+    ask_indexes(rt, terms, payload)?;
+    ask_numbers(rt, terms, packet_type, payload)?;
+    ask_lent(rt, terms, packet_type, payload)
 }
 
 // Puts two digits behind others: the refusal of an answer, or 0.
@@ -174,72 +190,89 @@ fn judged(terms: &[u64], packet_type: u8, payload: &[u8], place: usize) -> u64 {
 }
 
 // The types at which an answer differs from that of the type before, each before its digits.
-fn ask_types(terms: &[u64], payload: &[u8], place: usize) {
+fn ask_types(rt: &impl Print, terms: &[u64], payload: &[u8], place: usize) -> io::Result<()> {
     let mut before: u64 = 18_446_744_073_709_551_615;
     let mut i: u64 = 0;
     while i < 256 {
         let n = judged(terms, i as u8, payload, place);
         if n != before {
-            number(i);
-            number(n);
+            number(rt, i)?;
+            number(rt, n)?;
         }
         before = n;
         i += 1;
     }
+    Ok(())
 }
 
-fn ask_table(terms: &[u64], payload: &[u8], place: usize) {
-    show(b"sheet", sheet(terms));
-    ask_indexes(terms, payload);
-    text(b" types");
-    ask_types(terms, payload, place);
+fn ask_table(rt: &impl Print, terms: &[u64], payload: &[u8], place: usize) -> io::Result<()> {
+    show(rt, b"sheet", sheet(terms))?;
+    ask_indexes(rt, terms, payload)?;
+    text(rt, b" types")?;
+    ask_types(rt, terms, payload, place)
 }
 
-fn ask(q: Asked, terms: &[u64], payload: &[u8]) {
+fn ask(rt: &impl Print, q: Asked, terms: &[u64], payload: &[u8]) -> io::Result<()> {
     let place = q.a as usize;
     if q.kind == 0 {
-        ask_all(terms, q.about, payload, place);
+        ask_all(rt, terms, q.about, payload, place)
     } else {
-        ask_table(terms, payload, place);
+        ask_table(rt, terms, payload, place)
     }
 }
 
-fn ask_under(q: Asked, given: &[u8], payload: &[u8]) {
+fn ask_under(rt: &impl Print, q: Asked, given: &[u8], payload: &[u8]) -> io::Result<()> {
     let mut terms = [0u64; TERMS_ROOM];
     let sizes = hns_encoding::read_compact_sizes(given, 0, &mut terms);
     let count = sizes.count;
     if count <= TERMS_ROOM {
-        ask(q, &terms[..count], payload);
+        ask(rt, q, &terms[..count], payload)?;
     }
+    Ok(())
 }
 
-fn split(q: Asked, bytes: &[u8]) {
+fn split(rt: &impl Print, q: Asked, bytes: &[u8]) -> io::Result<()> {
     let size = hns_encoding::u8_at(bytes, 0) as usize;
     let rest = from_place(bytes, 1);
-    ask_under(q, hns_encoding::first(rest, size), from_place(rest, size));
+    ask_under(
+        rt,
+        q,
+        hns_encoding::first(rest, size),
+        from_place(rest, size),
+    )
 }
 
-fn answer(case: &[u8], long: &mut [u8]) {
+fn answer(rt: &impl Print, case: &[u8], long: &mut [u8]) -> io::Result<()> {
     let put = case_input::put_question(case, long);
     split(
+        rt,
         case_input::question(case),
         hns_encoding::first(long, put.size),
-    );
+    )?;
     case_input::clear_long(put, long);
+    Ok(())
 }
 
-fn run(buffer: &mut [u8], case: &mut [u8], long: &mut [u8]) {
-    let mut lines = case_input::first_case(buffer, case);
+fn run(
+    rt: &impl Print,
+    input: &mut impl Read,
+    buffer: &mut [u8],
+    case: &mut [u8],
+    long: &mut [u8],
+) -> io::Result<()> {
+    let mut lines = case_input::first_case(input, buffer, case)?;
     while 0 < lines.left {
-        answer(hns_encoding::first(case, lines.size), long);
-        case_lines::end_line();
-        lines = case_input::next_case(lines, buffer, case);
+        answer(rt, hns_encoding::first(case, lines.size), long)?;
+        case_lines::end_line(rt)?;
+        lines = case_input::next_case(lines, input, buffer, case)?;
     }
+    Ok(())
 }
 
-fn main() {
-    let mut buffer = io::buffer();
+fn main(rt: HostRuntime) -> io::Result<()> {
+    let mut input = rt.stdin();
+    let mut buffer = [0u8; 4_096];
     let mut case = [0u8; ROOM];
     let mut long = [0u8; LONG_ROOM];
-    run(&mut buffer, &mut case, &mut long);
+    run(&rt, &mut input, &mut buffer, &mut case, &mut long)
 }

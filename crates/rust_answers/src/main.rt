@@ -5,13 +5,14 @@
 #![tactic(auto)]
 
 use case_lines::{hex, number};
+use std::io::{self, Read};
 
-fn row(answer: [u64; 6]) {
-    case_lines::five(answer[0], answer[1], answer[2], answer[3], answer[4]);
-    number(answer[5]);
+fn row(rt: &impl Print, answer: [u64; 6]) -> io::Result<()> {
+    case_lines::five(rt, answer[0], answer[1], answer[2], answer[3], answer[4])?;
+    number(rt, answer[5])
 }
 
-fn read(kind: u8, bytes: &[u8], a: usize, b: usize, c: usize) {
+fn read(rt: &impl Print, kind: u8, bytes: &[u8], a: usize, b: usize, c: usize) -> io::Result<()> {
     let mut answer = [0u64; 6];
     match kind {
         0 => hns_ffi::hns_read_u8(bytes, a, &mut answer),
@@ -25,7 +26,7 @@ fn read(kind: u8, bytes: &[u8], a: usize, b: usize, c: usize) {
         8 => hns_ffi::hns_read_varbytes(bytes, a, b, &mut answer),
         _ => hns_ffi::hns_finish(bytes, a, &mut answer),
     }
-    row(answer);
+    row(rt, answer)
 }
 
 fn put(kind: u8, bytes: &[u8], a: usize, b: u64, out: &mut [u8]) -> usize {
@@ -40,11 +41,11 @@ fn put(kind: u8, bytes: &[u8], a: usize, b: u64, out: &mut [u8]) -> usize {
     }
 }
 
-fn show_put(kind: u8, bytes: &[u8], a: usize, b: u64) {
+fn show_put(rt: &impl Print, kind: u8, bytes: &[u8], a: usize, b: u64) -> io::Result<()> {
     let mut out = [0xaau8; 32];
     let next = put(kind, bytes, a, b, &mut out);
-    number(next as u64);
-    hex(&out);
+    number(rt, next as u64)?;
+    hex(rt, &out)
 }
 
 // A header alone, or at a place.
@@ -57,24 +58,25 @@ fn header(kind: u8, bytes: &[u8], a: usize, hashes: &mut [u8], answer: &mut [u64
 }
 
 // The header again from its parts.
-fn show_again(answer: [u64; 6], hashes: &[u8]) {
+fn show_again(rt: &impl Print, answer: [u64; 6], hashes: &[u8]) -> io::Result<()> {
     let mut out = [0xaau8; 240];
     let nonce = (answer[2] % 4_294_967_296) as u32;
     let version = (answer[4] % 4_294_967_296) as u32;
     let bits = (answer[5] % 4_294_967_296) as u32;
     hns_ffi::hns_put_header(nonce, answer[3], hashes, version, bits, &mut out, 2);
-    hex(&out);
+    hex(rt, &out)
 }
 
-fn show_header(kind: u8, bytes: &[u8], a: usize) {
+fn show_header(rt: &impl Print, kind: u8, bytes: &[u8], a: usize) -> io::Result<()> {
     let mut answer = [0u64; 6];
     let mut hashes = [0xaau8; 220];
     header(kind, bytes, a, &mut hashes, &mut answer);
-    row(answer);
-    hex(&hashes);
+    row(rt, answer)?;
+    hex(rt, &hashes)?;
     if answer[0] == 0 {
-        show_again(answer, &hashes);
+        show_again(rt, answer, &hashes)?;
     }
+    Ok(())
 }
 
 fn frame(kind: u8, network: u8, bytes: &[u8], a: u64, out: &mut [u8], answer: &mut [u64]) {
@@ -85,12 +87,12 @@ fn frame(kind: u8, network: u8, bytes: &[u8], a: u64, out: &mut [u8], answer: &m
     }
 }
 
-fn show_frame(kind: u8, network: u8, bytes: &[u8], a: u64) {
+fn show_frame(rt: &impl Print, kind: u8, network: u8, bytes: &[u8], a: u64) -> io::Result<()> {
     let mut answer = [0u64; 6];
     let mut out = [0xaau8; 48];
     frame(kind, network, bytes, a, &mut out, &mut answer);
-    row(answer);
-    hex(&out);
+    row(rt, answer)?;
+    hex(rt, &out)
 }
 
 // A push of what follows the first a bytes, which are held.
@@ -110,57 +112,64 @@ fn push(
 }
 
 // Its row, the held bytes, and the output.
-fn show_push(network: u8, bytes: &[u8], a: usize) {
+fn show_push(rt: &impl Print, network: u8, bytes: &[u8], a: usize) -> io::Result<()> {
     let mut answer = [0u64; 6];
     let mut store = [0xaau8; 64];
     let mut output = [0xaau8; 64];
     push(network, bytes, a, &mut store, &mut output, &mut answer);
     let held = if answer[0] == 0 { answer[3] } else { answer[4] };
-    row(answer);
-    hex(hns_encoding::first(&store, held as usize));
-    hex(&output);
+    row(rt, answer)?;
+    hex(rt, hns_encoding::first(&store, held as usize))?;
+    hex(rt, &output)
 }
 
 // A list of compact sizes: its row, and the values, of which those that were not read are as they were.
-fn show_sizes(bytes: &[u8], a: usize) {
+fn show_sizes(rt: &impl Print, bytes: &[u8], a: usize) -> io::Result<()> {
     let mut answer = [0u64; 6];
     let mut values = [170u64; 6];
     hns_ffi::hns_read_compact_sizes(bytes, a, &mut values, &mut answer);
-    row(answer);
-    row(values);
+    row(rt, answer)?;
+    row(rt, values)
 }
 
-fn answer(case: &[u8]) {
+fn answer(rt: &impl Print, case: &[u8]) -> io::Result<()> {
     let q = case_input::question(case);
     let bytes = case_input::question_bytes(case);
     let kind = q.kind;
-    io::print_decimal(1, kind as u64);
+    rt.print(kind)?;
     if kind < 10 {
-        read(kind, bytes, q.a as usize, q.b as usize, q.c as usize);
+        read(rt, kind, bytes, q.a as usize, q.b as usize, q.c as usize)
     } else if kind < 17 {
-        show_put(kind, bytes, q.a as usize, q.b);
+        show_put(rt, kind, bytes, q.a as usize, q.b)
     } else if kind < 19 {
-        show_header(kind, bytes, q.a as usize);
+        show_header(rt, kind, bytes, q.a as usize)
     } else if kind < 22 {
-        show_frame(kind, q.about, bytes, q.a);
+        show_frame(rt, kind, q.about, bytes, q.a)
     } else if kind < 23 {
-        show_push(q.about, bytes, q.a as usize);
+        show_push(rt, q.about, bytes, q.a as usize)
     } else {
-        show_sizes(bytes, q.a as usize);
+        show_sizes(rt, bytes, q.a as usize)
     }
 }
 
-fn run(buffer: &mut [u8], case: &mut [u8]) {
-    let mut lines = case_input::first_case(buffer, case);
+fn run(
+    rt: &impl Print,
+    input: &mut impl Read,
+    buffer: &mut [u8],
+    case: &mut [u8],
+) -> io::Result<()> {
+    let mut lines = case_input::first_case(input, buffer, case)?;
     while 0 < lines.left {
-        answer(hns_encoding::first(case, lines.size));
-        case_lines::end_line();
-        lines = case_input::next_case(lines, buffer, case);
+        answer(rt, hns_encoding::first(case, lines.size))?;
+        case_lines::end_line(rt)?;
+        lines = case_input::next_case(lines, input, buffer, case)?;
     }
+    Ok(())
 }
 
-fn main() {
-    let mut buffer = io::large_buffer();
+fn main(rt: HostRuntime) -> io::Result<()> {
+    let mut input = rt.stdin();
+    let mut buffer = [0u8; 65_536];
     let mut case = [0u8; 1_024];
-    run(&mut buffer, &mut case);
+    run(&rt, &mut input, &mut buffer, &mut case)
 }

@@ -10,6 +10,7 @@
 
 use case_input::Asked;
 use hns_p2p_fields::from_place;
+use std::io::{self, Read};
 
 // Bytes of a line.
 const ROOM: usize = 4_096;
@@ -122,43 +123,60 @@ fn call(kind: u8, packet_type: u8, bytes: &[u8], out: &mut [u8], row: &mut [u64]
 }
 
 // The output is shown after the answer.
-fn ask_lent(kind: u8, packet_type: u8, bytes: &[u8], out: &mut [u8]) {
+fn ask_lent(
+    rt: &impl Print,
+    kind: u8,
+    packet_type: u8,
+    bytes: &[u8],
+    out: &mut [u8],
+) -> io::Result<()> {
     let mut row = [0u64; 16];
     call(kind, packet_type, bytes, out, &mut row);
-    case_lines::count(row);
-    case_lines::hex_or_none(out);
+    case_lines::count(rt, row)?;
+    case_lines::hex_or_none(rt, out)
 }
 
-fn ask(q: Asked, bytes: &[u8]) {
+fn ask(rt: &impl Print, q: Asked, bytes: &[u8]) -> io::Result<()> {
     let mut out = [0xaau8; OUT_ROOM];
     let room = q.a as usize;
-    io::print_decimal(1, q.kind as u64);
+    rt.print(q.kind)?;
     if room <= OUT_ROOM {
-        ask_lent(q.kind, q.about, bytes, &mut out[..room]);
+        ask_lent(rt, q.kind, q.about, bytes, &mut out[..room])?;
     }
+    Ok(())
 }
 
-fn answer(case: &[u8], long: &mut [u8]) {
+fn answer(rt: &impl Print, case: &[u8], long: &mut [u8]) -> io::Result<()> {
     let put = case_input::put_question(case, long);
     ask(
+        rt,
         case_input::question(case),
         hns_encoding::first(long, put.size),
-    );
+    )?;
     case_input::clear_long(put, long);
+    Ok(())
 }
 
-fn run(buffer: &mut [u8], case: &mut [u8], long: &mut [u8]) {
-    let mut lines = case_input::first_case(buffer, case);
+fn run(
+    rt: &impl Print,
+    input: &mut impl Read,
+    buffer: &mut [u8],
+    case: &mut [u8],
+    long: &mut [u8],
+) -> io::Result<()> {
+    let mut lines = case_input::first_case(input, buffer, case)?;
     while 0 < lines.left {
-        answer(hns_encoding::first(case, lines.size), long);
-        case_lines::end_line();
-        lines = case_input::next_case(lines, buffer, case);
+        answer(rt, hns_encoding::first(case, lines.size), long)?;
+        case_lines::end_line(rt)?;
+        lines = case_input::next_case(lines, input, buffer, case)?;
     }
+    Ok(())
 }
 
-fn main() {
-    let mut buffer = io::large_buffer();
+fn main(rt: HostRuntime) -> io::Result<()> {
+    let mut input = rt.stdin();
+    let mut buffer = [0u8; 65_536];
     let mut case = [0u8; ROOM];
     let mut long = [0u8; LONG_ROOM];
-    run(&mut buffer, &mut case, &mut long);
+    run(&rt, &mut input, &mut buffer, &mut case, &mut long)
 }

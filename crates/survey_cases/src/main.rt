@@ -6,12 +6,13 @@ ghost use Rattle.std.specs.Prelude.{◌<◌, ◌≤◌};
 
 use hns_encoder::Encoder;
 use hns_p2p_frame::{Encoded, NetworkMagic};
+use std::io;
 use survey_export::Step;
 
 const CHUNK: usize = 4_096;
 
-fn say(text: &[u8]) {
-    io::write_all(1, text);
+fn say(rt: &impl Print, text: &[u8]) -> io::Result<()> {
+    rt.write_all(text)
 }
 
 // What a step leaves: the held count, where the text goes on, how much was written, and whether the survey goes on.
@@ -110,72 +111,83 @@ fn last_line(text: &[u8]) -> usize {
     0
 }
 
-fn show(text: &[u8]) {
+fn show(rt: &impl Print, text: &[u8]) -> io::Result<()> {
     if text.len() <= 200 {
-        say(text);
-        return;
+        return say(rt, text);
     }
-    io::print_decimal(1, text.len() as u64);
-    say(b" bytes, the last line ");
+    rt.print(text.len())?;
+    say(rt, b" bytes, the last line ")?;
     let at = last_line(text);
     if at <= text.len() {
-        say(&text[at..]);
+        say(rt, &text[at..])?;
     }
+    Ok(())
 }
 
-fn survey(name: &[u8], log: &[u8]) {
+fn survey(rt: &impl Print, name: &[u8], log: &[u8]) -> io::Result<()> {
     let mut store = [0xaau8; 24_576];
     let mut output = [0xaau8; 24_576];
     let mut text = [0u8; 65_536];
     let mut out = [0u8; 65_536];
-    say(name);
-    say(b":\n");
+    say(rt, name)?;
+    say(rt, b":\n")?;
     let n = export(log, &mut store, &mut output, &mut text, &mut out);
-    show(hns_encoding::first(&out, n));
+    show(rt, hns_encoding::first(&out, n))
 }
 
-fn begun() {
+fn begun(rt: &impl Print) -> io::Result<()> {
     survey(
+        rt,
         b"the example of document 01",
         b"\xd3\xf2\x6e\x5b\x01\x00\x00\x00\x00\xd3\xf2\x6e\x5b\x02\x08\x00\x00\x00\x01\x02\x03\x04\x05\x06\x07\x08\xd3\xf2",
-    );
-    survey(b"an empty log", b"");
-    survey(b"1 byte of a header", b"\xd3");
-    survey(b"2 bytes of a header", b"\xd3\xf2");
-    survey(b"3 bytes of a header", b"\xd3\xf2\x6e");
-    survey(b"4 bytes of a header", b"\xd3\xf2\x6e\x5b");
-    survey(b"5 bytes of a header", b"\xd3\xf2\x6e\x5b\x02");
-    survey(b"6 bytes of a header", b"\xd3\xf2\x6e\x5b\x02\x01");
-    survey(b"7 bytes of a header", b"\xd3\xf2\x6e\x5b\x02\x01\x00");
-    survey(b"8 bytes of a header", b"\xd3\xf2\x6e\x5b\x02\x01\x00\x00");
-    survey(b"a header", b"\xd3\xf2\x6e\x5b\x02\x01\x00\x00\x00");
+    )?;
+    survey(rt, b"an empty log", b"")?;
+    survey(rt, b"1 byte of a header", b"\xd3")?;
+    survey(rt, b"2 bytes of a header", b"\xd3\xf2")?;
+    survey(rt, b"3 bytes of a header", b"\xd3\xf2\x6e")?;
+    survey(rt, b"4 bytes of a header", b"\xd3\xf2\x6e\x5b")?;
+    survey(rt, b"5 bytes of a header", b"\xd3\xf2\x6e\x5b\x02")?;
+    survey(rt, b"6 bytes of a header", b"\xd3\xf2\x6e\x5b\x02\x01")?;
+    survey(rt, b"7 bytes of a header", b"\xd3\xf2\x6e\x5b\x02\x01\x00")?;
     survey(
+        rt,
+        b"8 bytes of a header",
+        b"\xd3\xf2\x6e\x5b\x02\x01\x00\x00",
+    )?;
+    survey(rt, b"a header", b"\xd3\xf2\x6e\x5b\x02\x01\x00\x00\x00")?;
+    survey(
+        rt,
         b"a frame of one byte",
         b"\xd3\xf2\x6e\x5b\xff\x01\x00\x00\x00\x5a",
-    );
+    )?;
     survey(
+        rt,
         b"8 bytes of another network",
         b"\xcf\x95\x38\xae\x01\x00\x00\x00",
-    );
+    )
 }
 
-fn stopped() {
+fn stopped(rt: &impl Print) -> io::Result<()> {
     survey(
+        rt,
         b"a header of regtest",
         b"\xcf\x95\x38\xae\x01\x00\x00\x00\x00",
-    );
+    )?;
     survey(
+        rt,
         b"a payload of 8,000,001",
         b"\xd3\xf2\x6e\x5b\x01\x01\x12\x7a\x00",
-    );
+    )?;
     survey(
+        rt,
         b"a payload of 8,000,000, begun",
         b"\xd3\xf2\x6e\x5b\x01\x00\x12\x7a\x00\x01",
-    );
+    )?;
     survey(
+        rt,
         b"a good frame and a bad header",
         b"\xd3\xf2\x6e\x5b\x01\x00\x00\x00\x00\xd3\xf2\x6e\x5c\x01\x00\x00\x00\x00",
-    );
+    )
 }
 
 // The encoding of a frame with a payload of n bytes of 07, and how long it is.
@@ -193,32 +205,43 @@ fn put_frame(log: &mut [u8], n: usize) -> usize {
 }
 
 // A frame, and then so many bytes of the next one's magic.
-fn long_frame(name: &[u8], n: usize, after: usize) {
+fn long_frame(rt: &impl Print, name: &[u8], n: usize, after: usize) -> io::Result<()> {
     let mut log = [0u8; 24_640];
     let size = put_frame(&mut log, n);
     let e = Encoder { position: size }.put_bytes(
         &mut log,
         hns_encoding::first(b"\xd3\xf2\x6e\x5b", after),
     );
-    survey(name, hns_encoding::first(&log, e.position));
+    survey(rt, name, hns_encoding::first(&log, e.position))
 }
 
-fn long_frames() {
-    long_frame(b"a frame that ends a byte before a chunk's end", 4_086, 1);
-    long_frame(b"a frame that ends exactly at a chunk's end", 4_087, 0);
+fn long_frames(rt: &impl Print) -> io::Result<()> {
     long_frame(
+        rt,
+        b"a frame that ends a byte before a chunk's end",
+        4_086,
+        1,
+    )?;
+    long_frame(rt, b"a frame that ends exactly at a chunk's end", 4_087, 0)?;
+    long_frame(
+        rt,
         b"a frame that ends exactly at a chunk's end, and a byte",
         4_087,
         1,
-    );
-    long_frame(b"a frame that ends a byte after a chunk's end", 4_088, 0);
-    long_frame(b"24,576 bytes exactly full", 24_567, 0);
-    long_frame(b"24,576 bytes exactly full, and a byte", 24_567, 1);
-    long_frame(b"a frame of 24,577 bytes", 24_568, 0);
+    )?;
+    long_frame(
+        rt,
+        b"a frame that ends a byte after a chunk's end",
+        4_088,
+        0,
+    )?;
+    long_frame(rt, b"24,576 bytes exactly full", 24_567, 0)?;
+    long_frame(rt, b"24,576 bytes exactly full, and a byte", 24_567, 1)?;
+    long_frame(rt, b"a frame of 24,577 bytes", 24_568, 0)
 }
 
-fn main() {
-    begun();
-    stopped();
-    long_frames();
+fn main(rt: HostRuntime) -> io::Result<()> {
+    begun(&rt)?;
+    stopped(&rt)?;
+    long_frames(&rt)
 }

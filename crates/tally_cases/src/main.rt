@@ -12,6 +12,7 @@ ghost use Rattle.std.specs.Prelude.{◌<◌, ◌≤◌, length};
 use case_lines::{field, number, text};
 use hns_p2p_fields::from_place;
 use hns_p2p_frame::Delivered;
+use std::io::{self, Read};
 
 // What stands before the numbers of the tally, each of these, and what stands before a push's bytes.
 const FRONT: usize = 6;
@@ -82,43 +83,44 @@ fn set_numbers(case: &[u8], count: u16, tally: &mut [u64]) {
 }
 
 // The numbers of a tally that are not zero, each behind its place.
-fn show_numbers(tally: &[u64]) {
-    text(b" tally");
+fn show_numbers(rt: &impl Print, tally: &[u64]) -> io::Result<()> {
+    text(rt, b" tally")?;
     let mut i: usize = 0;
     while i < tally.len() {
         let n = tally[i];
         if n != 0 {
-            number(i as u64);
-            number(n);
+            number(rt, i as u64)?;
+            number(rt, n)?;
         }
         i += 1;
     }
+    Ok(())
 }
 
-fn show_totals(tally: &[u64]) {
+fn show_totals(rt: &impl Print, tally: &[u64]) -> io::Result<()> {
     if 513 < tally.len() {
-        field(b" totals", tally[512]);
-        number(tally[513]);
+        field(rt, b" totals", tally[512])?;
+        number(rt, tally[513])?;
     }
-    text(b" ");
+    text(rt, b" ")
 }
 
-fn show_delivered(frames: usize, bytes: usize, held: usize) -> usize {
-    number(frames as u64);
-    number(bytes as u64);
-    number(held as u64);
-    held
+fn show_delivered(rt: &impl Print, frames: usize, bytes: usize, held: usize) -> io::Result<usize> {
+    number(rt, frames as u64)?;
+    number(rt, bytes as u64)?;
+    number(rt, held as u64)?;
+    Ok(held)
 }
 
-fn show_answer(answer: Delivered) -> usize {
+fn show_answer(rt: &impl Print, answer: Delivered) -> io::Result<usize> {
     match answer {
         Delivered::Accepted {
             frames,
             bytes,
             held,
         } => {
-            text(b"taken");
-            show_delivered(frames, bytes, held)
+            text(rt, b"taken")?;
+            show_delivered(rt, frames, bytes, held)
         }
         Delivered::Refused {
             refusal,
@@ -126,31 +128,32 @@ fn show_answer(answer: Delivered) -> usize {
             bytes,
             held,
         } => {
-            case_lines::refused(refusal);
-            show_delivered(frames, bytes, held)
+            case_lines::refused(rt, refusal)?;
+            show_delivered(rt, frames, bytes, held)
         }
     }
 }
 
-fn show_sums(output: &[u8], store: &[u8]) {
-    field(b" sums", sum(output));
-    number(sum(store));
+fn show_sums(rt: &impl Print, output: &[u8], store: &[u8]) -> io::Result<()> {
+    field(rt, b" sums", sum(output))?;
+    number(rt, sum(store))
 }
 
 // Answers the held count.
 fn ask(
+    rt: &impl Print,
     asked: Asked,
     input: &[u8],
     store: &mut [u8],
     output: &mut [u8],
     tally: &mut [u64],
-) -> usize {
+) -> io::Result<usize> {
     let network = hns_rows::network_of(asked.network);
     fill(output);
     let answer = hns_p2p_tally::push_tallying(network, store, asked.held, input, output, tally);
-    let held = show_answer(answer);
-    show_sums(output, store);
-    held
+    let held = show_answer(rt, answer)?;
+    show_sums(rt, output, store)?;
+    Ok(held)
 }
 
 fn input_of<'a>(push: &'a [u8], zeros: &'a [u8]) -> &'a [u8] {
@@ -179,31 +182,33 @@ fn read_push(push: &[u8], before: usize) -> Asked {
 
 // Nothing is asked if the output or the tally is longer than there is room for.
 fn step<'a>(
+    rt: &impl Print,
     push: &'a [u8],
     before: usize,
     zeros: &'a [u8],
     store: &mut [u8],
     output: &mut [u8],
     tally: &mut [u64],
-) -> usize {
+) -> io::Result<usize> {
     let asked = read_push(push, before);
     let out = asked.out;
     let numbers = asked.numbers;
     if output.len() < out {
-        return before;
+        return Ok(before);
     }
     if tally.len() < numbers {
-        return before;
+        return Ok(before);
     }
     let held = ask(
+        rt,
         asked,
         input_of(push, zeros),
         store,
         &mut output[..out],
         &mut tally[..numbers],
-    );
-    show_totals(tally);
-    held
+    )?;
+    show_totals(rt, tally)?;
+    Ok(held)
 }
 
 // The place behind the push at `from`, or the end.
@@ -221,60 +226,106 @@ fn next_push(pushes: &[u8], from: usize) -> usize
 
 // Answers the held count of the last push.
 fn run_pushes<'a>(
+    rt: &impl Print,
     pushes: &'a [u8],
     zeros: &'a [u8],
     store: &mut [u8],
     output: &mut [u8],
     tally: &mut [u64],
-) -> usize {
+) -> io::Result<usize> {
     let mut held: usize = 0;
     let mut at: usize = 0;
     while at < pushes.len() {
-        held = step(from_place(pushes, at), held, zeros, store, output, tally);
+        held = step(
+            rt,
+            from_place(pushes, at),
+            held,
+            zeros,
+            store,
+            output,
+            tally,
+        )?;
         at = next_push(pushes, at);
     }
-    held
+    Ok(held)
 }
 
 // The held bytes, and the numbers of the tally.
-fn show_end(held: &[u8], tally: &[u64]) {
-    text(b"held");
-    case_lines::hex_or_none(held);
-    show_numbers(tally);
+fn show_end(rt: &impl Print, held: &[u8], tally: &[u64]) -> io::Result<()> {
+    text(rt, b"held")?;
+    case_lines::hex_or_none(rt, held)?;
+    show_numbers(rt, tally)
 }
 
-fn ask_all<'a>(case: &'a [u8], zeros: &'a [u8], store: &mut [u8], output: &mut [u8]) {
+fn ask_all<'a>(
+    rt: &impl Print,
+    case: &'a [u8],
+    zeros: &'a [u8],
+    store: &mut [u8],
+    output: &mut [u8],
+) -> io::Result<()> {
     let count = hns_encoding::u16_at(case, 4);
     let pushes = from_place(case, FRONT + PAIR * count as usize);
     let mut tally = [0u64; TALLY_ROOM];
     set_numbers(case, count, &mut tally);
     fill(store);
-    let held = run_pushes(pushes, zeros, store, output, &mut tally);
-    show_end(hns_encoding::first(store, held), &tally);
+    let held = run_pushes(rt, pushes, zeros, store, output, &mut tally)?;
+    show_end(rt, hns_encoding::first(store, held), &tally)
 }
 
 // Nothing is asked if the store is longer than there is room for.
-fn answer<'a>(case: &'a [u8], zeros: &'a [u8], store: &mut [u8], output: &mut [u8]) {
+fn answer<'a>(
+    rt: &impl Print,
+    case: &'a [u8],
+    zeros: &'a [u8],
+    store: &mut [u8],
+    output: &mut [u8],
+) -> io::Result<()> {
     let size = hns_encoding::u32_at(case, 0) as usize;
     if size <= store.len() {
-        ask_all(case, zeros, &mut store[..size], output);
+        ask_all(rt, case, zeros, &mut store[..size], output)?;
     }
+    Ok(())
 }
 
-fn run(buffer: &mut [u8], case: &mut [u8], zeros: &[u8], store: &mut [u8], output: &mut [u8]) {
-    let mut lines = case_input::first_case(buffer, case);
+fn run(
+    rt: &impl Print,
+    input: &mut impl Read,
+    buffer: &mut [u8],
+    case: &mut [u8],
+    zeros: &[u8],
+    store: &mut [u8],
+    output: &mut [u8],
+) -> io::Result<()> {
+    let mut lines = case_input::first_case(input, buffer, case)?;
     while 0 < lines.left {
-        answer(hns_encoding::first(case, lines.size), zeros, store, output);
-        case_lines::end_line();
-        lines = case_input::next_case(lines, buffer, case);
+        answer(
+            rt,
+            hns_encoding::first(case, lines.size),
+            zeros,
+            store,
+            output,
+        )?;
+        case_lines::end_line(rt)?;
+        lines = case_input::next_case(lines, input, buffer, case)?;
     }
+    Ok(())
 }
 
-fn main() {
-    let mut buffer = io::buffer();
+fn main(rt: HostRuntime) -> io::Result<()> {
+    let mut input = rt.stdin();
+    let mut buffer = [0u8; 4_096];
     let mut case = [0u8; ROOM];
     let zeros = [0u8; LONG_ROOM];
     let mut store = [0u8; LONG_ROOM];
     let mut output = [0u8; LONG_ROOM];
-    run(&mut buffer, &mut case, &zeros, &mut store, &mut output);
+    run(
+        &rt,
+        &mut input,
+        &mut buffer,
+        &mut case,
+        &zeros,
+        &mut store,
+        &mut output,
+    )
 }

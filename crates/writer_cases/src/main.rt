@@ -13,6 +13,7 @@ use hns_encoder::Encoder;
 use hns_p2p_block_puts::{AddressFields, VersionFields};
 use hns_p2p_fields::from_place;
 use hns_p2p_frame::Encoded;
+use std::io::{self, Read};
 
 const FRONT: usize = 17;
 
@@ -42,17 +43,18 @@ fn sum(bytes: &[u8]) -> u64 {
     sum
 }
 
-fn written(bytes: &[u8]) {
+fn written(rt: &impl Print, bytes: &[u8]) -> io::Result<()> {
     let n = bytes.len();
-    field(b"written", n as u64);
+    field(rt, b"written", n as u64)?;
     if WHOLE < n {
-        hex(hns_encoding::first(bytes, 64));
-        text(b" ..");
-        hex(from_place(bytes, n - 8));
-        field(b" sum", sum(bytes));
+        hex(rt, hns_encoding::first(bytes, 64))?;
+        text(rt, b" ..")?;
+        hex(rt, from_place(bytes, n - 8))?;
+        field(rt, b" sum", sum(bytes))?;
     } else if 0 < n {
-        hex(bytes);
+        hex(rt, bytes)?;
     }
+    Ok(())
 }
 
 // The byte that stands at a place of the output before a call: not the same everywhere, so that a byte that moved shows.
@@ -86,18 +88,18 @@ fn kept(out: &[u8], from: usize) -> u64 {
     kept
 }
 
-fn show(answer: Encoded, out: &[u8]) {
+fn show(rt: &impl Print, answer: Encoded, out: &[u8]) -> io::Result<()> {
     let from = match answer {
         Encoded::Written(n) => {
-            written(hns_encoding::first(out, n));
+            written(rt, hns_encoding::first(out, n))?;
             n
         }
         Encoded::Refused(refusal) => {
-            refused(refusal);
+            refused(rt, refusal)?;
             0
         }
     };
-    field(b" kept", kept(out, from));
+    field(rt, b" kept", kept(out, from))
 }
 
 fn ip_at(fields: &[u8], at: usize) -> [u8; 16] {
@@ -229,35 +231,44 @@ fn lengthen(case: &mut [u8], n: usize, zeros: usize) -> usize {
 }
 
 // The call that a case of so many bytes asks for, into the whole output.
-fn call(case: &[u8], out: &mut [u8]) {
+fn call(rt: &impl Print, case: &[u8], out: &mut [u8]) -> io::Result<()> {
     let asked = hns_encoding::u8_at(case, 0);
     fill(out);
     let answer = write(asked, from_place(case, FRONT), out);
-    show(answer, out);
+    show(rt, answer, out)
 }
 
-fn answer(case: &mut [u8], n: usize, out: &mut [u8]) {
+fn answer(rt: &impl Print, case: &mut [u8], n: usize, out: &mut [u8]) -> io::Result<()> {
     let room = hns_encoding::u64_at(case, 1) as usize;
     let zeros = hns_encoding::u64_at(case, 9) as usize;
     let end = lengthen(case, n, zeros);
     let whole = hns_encoding::first(case, end);
     if room <= out.len() {
-        call(whole, &mut out[..room]);
+        call(rt, whole, &mut out[..room])?;
     }
+    Ok(())
 }
 
-fn run(buffer: &mut [u8], case: &mut [u8], out: &mut [u8]) {
-    let mut lines = case_input::first_case(buffer, case);
+fn run(
+    rt: &impl Print,
+    input: &mut impl Read,
+    buffer: &mut [u8],
+    case: &mut [u8],
+    out: &mut [u8],
+) -> io::Result<()> {
+    let mut lines = case_input::first_case(input, buffer, case)?;
     while 0 < lines.left {
-        answer(case, lines.size, out);
-        case_lines::end_line();
-        lines = case_input::next_case(lines, buffer, case);
+        answer(rt, case, lines.size, out)?;
+        case_lines::end_line(rt)?;
+        lines = case_input::next_case(lines, input, buffer, case)?;
     }
+    Ok(())
 }
 
-fn main() {
-    let mut buffer = io::large_buffer();
+fn main(rt: HostRuntime) -> io::Result<()> {
+    let mut input = rt.stdin();
+    let mut buffer = [0u8; 65_536];
     let mut case = [0u8; ROOM];
     let mut out = [0u8; ROOM];
-    run(&mut buffer, &mut case, &mut out);
+    run(&rt, &mut input, &mut buffer, &mut case, &mut out)
 }

@@ -2,7 +2,6 @@ use native.Mathlib.Omega.{arith}
 use mathlib.Core.Path.{refl}
 use Rattle.hns_encoding.proofs.Reading.{raw_missing}
 use Rattle.hns_encoder.proofs.Arrays.{array_filled}
-use borrow.Author.Rules.{rules}
 use Rattle.hns_encoder.proofs.array24_at.Goals as goal
 
 -- UNMATCHED

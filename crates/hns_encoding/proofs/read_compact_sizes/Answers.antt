@@ -1,5 +1,4 @@
 -- `read_compact_sizes` meets its contract: what is read so far and what is left are the whole run.
-use Prim.Native.Nat.{◌-◌}
 use native.Mathlib.Omega.{arith}
 use Rattle.hns_encoding.proofs.Runs.{read_start, read_length, full_test, full_here, refused_here, ended_answer, ended_values, one_more}
 use Rattle.hns_encoding.proofs.read_compact_sizes.Goals as goal

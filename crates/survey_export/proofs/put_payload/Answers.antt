@@ -6,7 +6,7 @@ use native.Mathlib.Omega.{arith}
 use Rattle.survey_export.proofs.put_payload.Goals as goal
 
 pub returns-then-payload-eq0 : goal.returns-then-payload-eq0
-returns-then-payload-eq0 c = rw (payload_none _ c.if-payload-eq0.true) (put_none _ _ (omega arith))
+returns-then-payload-eq0 c = rw (payload_none c.args.payload.now (omega arith)) (put_none _ _ (omega arith))
 
 pub returns : goal.returns
-returns c = rw (payload_some _ c.if-payload-eq0.false) ((c.put_u8-e.ensures ⨟ (λ h. c.put_hex.ensures)) (omega arith))
+returns c = rw (payload_some c.args.payload.now (λ e. omega arith)) ((c.put_u8-e.ensures ⨟ (λ h. c.put_hex.ensures)) (omega arith))

@@ -1,5 +1,4 @@
 -- `set_bytes` meets its contract: the loop pastes one byte after another.
-use Prim.Native.Nat.{◌-◌}
 use mathlib.Core.Path.{◌≡◌, refl, ◌∙◌}
 use native.Mathlib.Omega.{arith}
 use native.Mathlib.Numerals.{add-one}

@@ -1,0 +1,10 @@
+use Rattle.hns_rows.specs.Rows.{header_row}
+use Rattle.hns_rows.proofs.of_header.Goals as goal
+
+pub returns-in-Done : goal.returns-in-Done
+unfolding header_row
+returns-in-Done c = rw c.in-Done.is
+
+pub returns-in-Refused : goal.returns-in-Refused
+unfolding header_row
+returns-in-Refused c = rw c.in-Refused.is c.of_refusal.ensures
