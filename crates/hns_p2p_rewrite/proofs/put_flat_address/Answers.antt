@@ -1,6 +1,6 @@
 use native.Mathlib.Omega.{arith}
 use Rattle.hns_encoding.specs.Format.{write}
-use Rattle.hns_encoding.proofs.Puts.{◌⨟◌, put_length}
+use Rattle.hns_encoding.proofs.Puts.{◌⨟◌}
 use Rattle.hns_p2p_rewrite.proofs.put_flat_address.Goals as goal
 
 pub returns : goal.returns
