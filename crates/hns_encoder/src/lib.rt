@@ -167,6 +167,7 @@ impl Encoder {
         self.put_block(out, &array, 32)
     }
 
+    #[tactic(auto, using(hns_encoding::proofs::Forms::byte_alone))]
     pub fn put_compact_size(self, out: &mut [u8], value: u64) -> Encoder
         ensures { Put out.old self.position (compact_bytes value) out.new result.position }
     {
@@ -192,6 +193,7 @@ impl Encoder {
 }
 
 // Bytes at a place as an array: zeros where they are not all there.
+#[tactic(auto, using(hns_encoding::proofs::Reading::raw_missing))]
 pub fn array24_at(input: &[u8], at: usize) -> [u8; 24]
     ensures { result ≡ raw_at 24 input.now at }
 {
@@ -204,6 +206,7 @@ pub fn array24_at(input: &[u8], at: usize) -> [u8; 24]
     out
 }
 
+#[tactic(auto, using(hns_encoding::proofs::Reading::raw_missing))]
 pub fn array32_at(input: &[u8], at: usize) -> [u8; 32]
     ensures { result ≡ raw_at 32 input.now at }
 {

@@ -85,6 +85,7 @@ fn le64(input: &[u8], at: usize) -> u64
 }
 
 // The number of so many bytes at a place, or 0 where they are not all there.
+#[tactic(auto, using(crate::proofs::Reading::number_short))]
 pub fn u8_at(input: &[u8], at: usize) -> u8
     ensures { result ≡ number_at 1 input.now at }
 {
@@ -94,6 +95,7 @@ pub fn u8_at(input: &[u8], at: usize) -> u8
     le8(input, at) as u8
 }
 
+#[tactic(auto, using(crate::proofs::Reading::number_short))]
 pub fn u16_at(input: &[u8], at: usize) -> u16
     ensures { result ≡ number_at 2 input.now at }
 {
@@ -103,6 +105,7 @@ pub fn u16_at(input: &[u8], at: usize) -> u16
     le16(input, at) as u16
 }
 
+#[tactic(auto, using(crate::proofs::Reading::number_short))]
 pub fn u32_at(input: &[u8], at: usize) -> u32
     ensures { result ≡ number_at 4 input.now at }
 {
@@ -112,6 +115,7 @@ pub fn u32_at(input: &[u8], at: usize) -> u32
     le32(input, at) as u32
 }
 
+#[tactic(auto, using(crate::proofs::Reading::number_short))]
 pub fn u64_at(input: &[u8], at: usize) -> u64
     ensures { result ≡ number_at 8 input.now at }
 {
@@ -204,6 +208,7 @@ fn by_form(first: u64, two: u64, four: u64, eight: u64) -> u64
 }
 
 // What the first byte of a compact size says of the rest.
+#[tactic(auto, using(crate::proofs::Reading::first_is_all))]
 fn compact_from(input: &[u8], first: u64, next: usize) -> Number
     ensures { result ≡ number_of (compact_from first input.now next) }
 {
@@ -305,6 +310,7 @@ pub fn read_varbytes(input: &[u8], position: usize, maximum: usize) -> Slice
 }
 
 // No byte may be left from `position` on.
+#[tactic(auto, using(crate::proofs::Reading::finish_done, crate::proofs::Reading::finish_left))]
 pub fn finish(input: &[u8], position: usize) -> Finished
     ensures { result ≡ finished_of (end_at input.now position) }
 {

@@ -8,6 +8,7 @@ ghost use Rattle.hns_p2p_admission.specs.Admission.{admitted};
 use hns_refusals::{Checked, Refusal};
 
 // Whether a payload of that type and length may be read under terms: 21, 22, 5.
+#[tactic(auto, using(crate::proofs::Tests::too_large, crate::proofs::Tests::passed))]
 pub fn admit(terms: &[u64], packet_type: u8, length: usize) -> Checked
     ensures { result ≡ admitted (terms_of terms.now) packet_type length }
 {

@@ -34,6 +34,7 @@ pub fn ends_in(payload: &[u8], widths: &[usize], at: usize) -> Refusal
 }
 
 // A packet whose fields end at a place: no byte may be left.
+#[tactic(auto, using(crate::proofs::Ends::closed, crate::proofs::Ends::not_closed))]
 pub fn close(payload: &[u8], at: usize, packet: Packet) -> Packet
     ensures { result ≡ gate (end_at payload.now at) packet }
 {

@@ -9,8 +9,6 @@ use lib.ListN.{length, get_or, drop}
 use lib.Seq.{ext_get_or, get_or-take, get_or-drop}
 use lib.Dec.{eqb}
 use borrow.Author.Tests.{eqb-true, eq-eqb}
-use denote.Enum.Declared.{tag_of}
-use types.Run.{OneOf, miss}
 use Rattle.hns_refusals.specs.declared.Refusal.{Refusal}
 use Rattle.hns_encoding.specs.Bytes.{part, Bytes, Outcome, got, stop}
 use Rattle.hns_encoding.specs.Format.{Format, Value, Fixed, values_at}
@@ -19,7 +17,6 @@ use Rattle.hns_p2p_types.specs.Protocol.{inventory_item}
 use Rattle.hns_p2p_types.specs.declared.Items.{Items}
 use Rattle.hns_p2p_types.specs.declared.Listing.{Listing}
 use Rattle.hns_p2p_types.specs.declared.Listing.TheVariants as L
-use Rattle.hns_p2p_types.specs.contracts.Listing as listings
 use Rattle.hns_p2p_types.specs.declared.Found.{Found}
 use Rattle.hns_p2p_types.specs.declared.Found.TheVariants as F
 use Rattle.hns_p2p_types.specs.declared.Item.{Item}

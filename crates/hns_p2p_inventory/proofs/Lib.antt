@@ -1,4 +1,2 @@
 pub mod Items
-pub mod Plain
-pub mod Calls
 pub mod Records

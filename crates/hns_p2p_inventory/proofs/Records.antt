@@ -3,15 +3,14 @@
 --     all_whole    what any share of records says of them all
 --     knows_all    a step of a walk:  [what the slice owns; its token; …]  ⇒  the same, and every record is whole
 -- Assumes nothing.
-use mathlib.Core.Path.{sym, ◌∙◌}
 use Prim.Native.Nat.{ℕ, ◌+◌}
 use mathlib.Core.List.{List, [], ◌∷◌}
-use lib.ListN.{length, length-map}
+use lib.ListN.{length}
 use seplogic.Ra.Ura.{Ura}
 use mir.Syntax.{named}
 use mir.Val.{Val}
 use base.Logic.{ent, guard, guard_i}
-use base.Fml.{Lft, Share, GName, Fml, fsep, flft}
+use base.Fml.{Lft, Share, Fml, fsep, flft}
 use types.Logic.{Logic, sem}
 use types.Kit.{Item, Goal, Soaks, Go, Seq, ‵, ◌⊛◌, given, ◌$◌, ◌∵◌, !, qed, move, drop, use1, split, learn, fsplit, fjoin, fpick, fpack, check, done}
 use denote.RattleType.{RattleType}
@@ -32,7 +31,7 @@ abbrev pub R : RattleType
 R = S.the_row
 
 pub whole : (item : Inventory) (vs : List Val) → Is R item vs → Whole item
-whole item vs is = ((LL.owed S.the_type S'.the_laws item vs is).0.1, sym (length-map item.hash (λ (v : ℕ). v)) ∙ (LL.owed S.the_type S'.the_laws item vs is).1.0.1.0.1)
+whole item vs is = ((LL.owed S.the_type S'.the_laws item vs is).0.1, (LL.owed S.the_type S'.the_laws item vs is).1.0.1.0.1)
 
 module _ {M : Type 1} {𝓤 : Ura M} (𝓛 : Logic 𝓤) where
   open 𝓛 use {H}
@@ -46,7 +45,7 @@ module _ {M : Type 1} {𝓤 : Ura M} (𝓛 : Logic 𝓤) where
       use1 𝓛 (given (All Whole items) (‵ (row R q items b (o + (mem R).size)))) (all_whole q items b (o + (mem R).size)) $ learn ! (λ r.
       check ! (whole item vs is, r) $ move ! (1 ∷ 0 ∷ []) $ fjoin ! $ done !)))
 
-  module _ (κ : Lft) (q : Share) (γ : GName) (b o : ℕ) (items : List Inventory) where
+  module _ (κ : Lft) (q : Share) (b o : ℕ) (items : List Inventory) where
     abbrev pub refers : Bor (List Inventory)
     refers = record { ref_ptr = (b, o); now = items }
 
@@ -58,7 +57,7 @@ module _ {M : Type 1} {𝓤 : Ura M} (𝓛 : Logic 𝓤) where
 
     pub knows_all : {Γ : List (Item 𝓤)} {G : Goal 𝓤 H} → Soaks G → (All Whole items → Seq (Go {0}) 𝓛 (‵ Own ∷ ‵ (flft κ q) ∷ Γ) G) → Seq (Go {0}) 𝓛 (‵ Own ∷ ‵ (flft κ q) ∷ Γ) G
     knows_all z k =
-        use1 𝓛 (‵ Own ⊛ ‵ Own) ((shr_slice_copy 𝓛 (named 0) κ R).twice refers (value ∷ [])) $ split ! $ fsplit ! $ drop ! $ fsplit ! $ drop ! $ move ! (0 ∷ 2 ∷ []) $
-        looks_slice ! z R (Is R) (shows 𝓛 R) (LL.vals S.the_type S'.the_laws) (LL.tells S.the_type S'.the_laws) (LL.copy S.the_type S'.the_copy 𝓛) items b o (λ t.
+        use1 𝓛 (‵ Own ⊛ ‵ Own) ((shr_slice_copy 𝓛 (named 0) κ R (S'.the_row_laws).shr_laws).twice refers (value ∷ [])) $ split ! $ fsplit ! $ drop ! $ move ! (0 ∷ 2 ∷ []) $
+        looks_slice ! z R (LL.copied S.the_type S'.the_copy 𝓛) items b o (λ t.
         use1 𝓛 (given (All Whole items) (‵ (row R t items b o))) (all_whole t items b o) $ learn ! (λ all.
         shuts_slice ! z R t items b o $ move ! (1 ∷ []) $ drop ! $ move ! (1 ∷ 0 ∷ []) $ k all))

@@ -8,8 +8,6 @@ use native.Mathlib.Nat.{suc-mul, mul-le-mul_right}
 use lib.ListN.{length, set, length-append}
 use lib.Dec.{leb}
 use borrow.Author.Tests.{le-leb, lt-leb}
-use denote.Enum.Declared.{tag_of}
-use types.Run.{OneOf, miss}
 use Rattle.hns_refusals.specs.declared.Refusal.{Refusal}
 use Rattle.hns_refusals.specs.Limits.{max_payload, block_header_size}
 use Rattle.hns_refusals.specs.Refusals.{output_short}
@@ -25,7 +23,6 @@ use Rattle.hns_p2p_types.specs.declared.Listing.{Listing}
 use Rattle.hns_p2p_types.specs.declared.Listing.TheVariants as L
 use Rattle.hns_p2p_types.specs.declared.Stored.{Stored}
 use Rattle.hns_p2p_types.specs.declared.Stored.TheVariants as S
-use Rattle.hns_p2p_types.specs.contracts.Listing as listings
 use Rattle.hns_p2p_types.specs.Packets.{address_in, address_numbers, inventory_numbers}
 use Rattle.hns_p2p_blocks.proofs.Addresses.{address_is}
 use Rattle.hns_p2p_rights.specs.Terms.{Terms}

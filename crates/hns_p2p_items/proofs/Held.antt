@@ -29,7 +29,7 @@ use Rattle.hns_p2p_lists.proofs.Lists.{many_fits, records}
 use Rattle.hns_p2p_lists.proofs.Listed.{count_place, list_stands}
 use Rattle.hns_p2p_lists.proofs.Requests.{index_count}
 use Rattle.hns_p2p_items.specs.Items.{Element, an_address, an_inventory, a_hash, a_header, Listed, under, items, RowItems, none, row_items, items_by, listed_by, listed_under}
-use Rattle.hns_p2p_items.specs.Listings.{list_in, listing_under, Records, Indexed, Indexes, Holds, HeldBy, ListingHolds}
+use Rattle.hns_p2p_items.specs.Listings.{list_in, listing_under, Records, Indexed, Holds, HeldBy, ListingHolds}
 use Rattle.hns_p2p_items.specs.Helpers.{items_in}
 
 -- ---- lists of items of a fixed size

@@ -8,8 +8,6 @@ use native.Mathlib.Numerals.{add-one}
 use lib.ListN.{length, get_or, length-map}
 use lib.Dec.{leb}
 use borrow.Author.Tests.{leb-true}
-use denote.Enum.Declared.{tag_of}
-use types.Run.{OneOf, miss}
 use Rattle.hns_refusals.specs.declared.Refusal.{Refusal}
 use Rattle.hns_refusals.specs.Limits.{max_payload, block_header_size, max_index}
 use Rattle.hns_refusals.specs.Refusals.{no_item, index_field}
@@ -29,8 +27,6 @@ use Rattle.hns_p2p_types.specs.declared.Listing.{Listing}
 use Rattle.hns_p2p_types.specs.declared.Listing.TheVariants as L
 use Rattle.hns_p2p_types.specs.declared.Packet.{Packet}
 use Rattle.hns_p2p_types.specs.declared.Packet.TheVariants as P
-use Rattle.hns_p2p_types.specs.contracts.Packet as packets
-use Rattle.hns_p2p_types.specs.contracts.Listing as listings
 use Rattle.hns_p2p_types.specs.Protocol.{read_by}
 use Rattle.hns_p2p_types.specs.Packets.{row, layout, answered}
 use Rattle.hns_p2p_types.proofs.Payloads.{by_got}

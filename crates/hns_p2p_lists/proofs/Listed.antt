@@ -13,7 +13,7 @@ use Rattle.hns_refusals.specs.Limits.{max_locator}
 use Rattle.hns_refusals.specs.Refusals.{unexpected_end, locator_field}
 use Rattle.hns_encoding.specs.Bytes.{Bytes, Outcome, got, stop, after, left, bytes_at, end_at, to_end}
 use Rattle.hns_encoding.specs.Compact.{compact_bytes, count_at}
-use Rattle.hns_encoding.specs.Format.{Format, raw, counted, ◌▸◌, Value, read, widths, sum, size, Fixed, short, values_at}
+use Rattle.hns_encoding.specs.Format.{Format, raw, counted, ◌▸◌, read, widths, sum, Fixed, short, values_at}
 use Rattle.hns_encoding.specs.Answers.{number_of}
 use Rattle.hns_encoding.specs.declared.Number.{Number}
 use Rattle.hns_encoding.specs.declared.Number.TheVariants as N

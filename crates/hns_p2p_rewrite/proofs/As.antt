@@ -2,14 +2,12 @@
 use Prim.Native.Nat.{ℕ, ◌+◌, ◌-◌, ◌*◌, ◌≤◌}
 use mathlib.Core.Path.{◌≡◌, refl, sym, ap, ap₂, subst, ◌∙◌}
 use mathlib.Core.Bool.{Bool, true, false}
-use mathlib.Core.List.{List, [], ◌∷◌, ◌++◌}
+use mathlib.Core.List.{List, [], ◌++◌}
 use native.Mathlib.Omega.{arith}
 use native.Mathlib.Nat.{zero-add}
 use lib.ListN.{length, get_or, take, drop, length-append, length-take, length-drop}
 use lib.Seq.{take_all, take-append_seam, drop-append_seam}
 use borrow.Author.Tests.{le-leb}
-use denote.Enum.Declared.{tag_of}
-use types.Run.{OneOf, miss}
 use Rattle.hns_refusals.specs.Limits.{max_payload, max_addresses, max_inventory, max_headers, block_header_size}
 use Rattle.hns_refusals.specs.Refusals.{address_field, inventory_field, header_field}
 use Rattle.hns_encoding.specs.Bytes.{choose, Bytes, part, Outcome, got, stop, to_end, raw_at}
@@ -27,7 +25,6 @@ use Rattle.hns_p2p_types.specs.declared.Span.{Span}
 use Rattle.hns_p2p_types.specs.declared.Hash.TheVariants as H
 use Rattle.hns_p2p_types.specs.declared.Packet.{Packet}
 use Rattle.hns_p2p_types.specs.declared.Packet.TheVariants as P
-use Rattle.hns_p2p_types.specs.contracts.Packet as packets
 use Rattle.hns_p2p_types.specs.Protocol.{address, addresses, inventory_item, inventory, locator, headers, version, reject, carries_hash, getblocktxn, getproof}
 use Rattle.hns_p2p_types.specs.Packets.{address_at, span_at, items_at, version_packet, reject_packet, Row, rows, raw_bytes, row, layout, ◌&◌, texted, Answer}
 use Rattle.hns_p2p_rights.specs.Terms.{Terms}
@@ -257,40 +254,60 @@ module _ (u : Terms) (t : ℕ) (s : List ℕ) (bs : Bytes s) (z : List ℕ) (roo
 
 -- ---- packets that no arm names: raw bytes
 
--- the numbers of their constructors
-abbrev others : List ℕ
-others = 13 ∷ 14 ∷ 17 ∷ 18 ∷ 20 ∷ 23 ∷ 25 ∷ 27 ∷ 28 ∷ 29 ∷ 30 ∷ []
+-- a packet of none of the variants that have an arm of their own
+pub record Unnamed (p : Packet) : Type 0 where
+  pub version : (x0 : _) → p ≡ P.Version x0 → ⊥
+  pub verack : p ≡ P.Verack → ⊥
+  pub ping : (x0 : _) → p ≡ P.Ping x0 → ⊥
+  pub pong : (x0 : _) → p ≡ P.Pong x0 → ⊥
+  pub get_addr : p ≡ P.GetAddr → ⊥
+  pub addr : (x0 : _) → p ≡ P.Addr x0 → ⊥
+  pub inv : (x0 : _) → p ≡ P.Inv x0 → ⊥
+  pub get_data : (x0 : _) → p ≡ P.GetData x0 → ⊥
+  pub not_found : (x0 : _) → p ≡ P.NotFound x0 → ⊥
+  pub get_blocks : (x0 : _) → p ≡ P.GetBlocks x0 → ⊥
+  pub get_headers : (x0 : _) → p ≡ P.GetHeaders x0 → ⊥
+  pub headers : (x0 : _) → p ≡ P.Headers x0 → ⊥
+  pub send_headers : p ≡ P.SendHeaders → ⊥
+  pub reject : (x0 : _) → p ≡ P.Reject x0 → ⊥
+  pub mempool : p ≡ P.Mempool → ⊥
+  pub filter_clear : p ≡ P.FilterClear → ⊥
+  pub fee_filter : (x0 : _) → p ≡ P.FeeFilter x0 → ⊥
+  pub send_cmpct : (x0 : _) (x1 : _) → p ≡ P.SendCmpct x0 x1 → ⊥
+  pub get_block_txn : (x0 : _) → p ≡ P.GetBlockTxn x0 → ⊥
+  pub get_proof : (x0 : _) → p ≡ P.GetProof x0 → ⊥
+  pub refused : (x0 : _) → p ≡ P.Refused x0 → ⊥
 
-pub others_raw : (p : Packet) → OneOf others (tag_of packets.the_type p) → (s x o : List ℕ) (w : Written) → As p s x o w → gives_raw s o ≡ w
-others_raw (P.Version v) h s x o w a = absurd (miss others 0 tt h)
-others_raw P.Verack h s x o w a = absurd (miss others 1 tt h)
-others_raw (P.Ping n) h s x o w a = absurd (miss others 2 tt h)
-others_raw (P.Pong n) h s x o w a = absurd (miss others 3 tt h)
-others_raw P.GetAddr h s x o w a = absurd (miss others 4 tt h)
-others_raw (P.Addr i) h s x o w a = absurd (miss others 5 tt h)
-others_raw (P.Inv i) h s x o w a = absurd (miss others 6 tt h)
-others_raw (P.GetData i) h s x o w a = absurd (miss others 7 tt h)
-others_raw (P.NotFound i) h s x o w a = absurd (miss others 8 tt h)
-others_raw (P.GetBlocks l) h s x o w a = absurd (miss others 9 tt h)
-others_raw (P.GetHeaders l) h s x o w a = absurd (miss others 10 tt h)
-others_raw (P.Headers i) h s x o w a = absurd (miss others 11 tt h)
-others_raw P.SendHeaders h s x o w a = absurd (miss others 12 tt h)
+pub others_raw : (p : Packet) → Unnamed p → (s x o : List ℕ) (w : Written) → As p s x o w → gives_raw s o ≡ w
+others_raw (P.Version v) h s x o w a = absurd (h.version v refl)
+others_raw P.Verack h s x o w a = absurd (h.verack refl)
+others_raw (P.Ping n) h s x o w a = absurd (h.ping n refl)
+others_raw (P.Pong n) h s x o w a = absurd (h.pong n refl)
+others_raw P.GetAddr h s x o w a = absurd (h.get_addr refl)
+others_raw (P.Addr i) h s x o w a = absurd (h.addr i refl)
+others_raw (P.Inv i) h s x o w a = absurd (h.inv i refl)
+others_raw (P.GetData i) h s x o w a = absurd (h.get_data i refl)
+others_raw (P.NotFound i) h s x o w a = absurd (h.not_found i refl)
+others_raw (P.GetBlocks l) h s x o w a = absurd (h.get_blocks l refl)
+others_raw (P.GetHeaders l) h s x o w a = absurd (h.get_headers l refl)
+others_raw (P.Headers i) h s x o w a = absurd (h.headers i refl)
+others_raw P.SendHeaders h s x o w a = absurd (h.send_headers refl)
 others_raw (P.Block k) h s x o w a = a
 others_raw (P.Tx k) h s x o w a = a
-others_raw (P.Reject r) h s x o w a = absurd (miss others 15 tt h)
-others_raw P.Mempool h s x o w a = absurd (miss others 16 tt h)
+others_raw (P.Reject r) h s x o w a = absurd (h.reject r refl)
+others_raw P.Mempool h s x o w a = absurd (h.mempool refl)
 others_raw (P.FilterLoad k) h s x o w a = a
 others_raw (P.FilterAdd k) h s x o w a = a
-others_raw P.FilterClear h s x o w a = absurd (miss others 19 tt h)
+others_raw P.FilterClear h s x o w a = absurd (h.filter_clear refl)
 others_raw (P.MerkleBlock k) h s x o w a = a
-others_raw (P.FeeFilter n) h s x o w a = absurd (miss others 21 tt h)
-others_raw (P.SendCmpct m n) h s x o w a = absurd (miss others 22 tt h)
+others_raw (P.FeeFilter n) h s x o w a = absurd (h.fee_filter n refl)
+others_raw (P.SendCmpct m n) h s x o w a = absurd (h.send_cmpct m n refl)
 others_raw (P.CmpctBlock k) h s x o w a = a
-others_raw (P.GetBlockTxn q) h s x o w a = absurd (miss others 24 tt h)
+others_raw (P.GetBlockTxn q) h s x o w a = absurd (h.get_block_txn q refl)
 others_raw (P.BlockTxn k) h s x o w a = a
-others_raw (P.GetProof p) h s x o w a = absurd (miss others 26 tt h)
+others_raw (P.GetProof p) h s x o w a = absurd (h.get_proof p refl)
 others_raw (P.Proof k) h s x o w a = a
 others_raw (P.Claim k) h s x o w a = a
 others_raw (P.Airdrop k) h s x o w a = a
 others_raw (P.Unknown t k) h s x o w a = a
-others_raw (P.Refused r) h s x o w a = absurd (miss others 31 tt h)
+others_raw (P.Refused r) h s x o w a = absurd (h.refused r refl)

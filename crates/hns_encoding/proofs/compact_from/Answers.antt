@@ -1,9 +1,6 @@
 use native.Mathlib.Omega.{arith}
-use Rattle.hns_encoding.proofs.Reading.{first_is_all, width_most, number_picked, form_picked}
+use Rattle.hns_encoding.proofs.Reading.{width_most, number_picked, form_picked}
 use Rattle.hns_encoding.proofs.compact_from.Goals as goal
-
-pub returns-then-first-lt253 : goal.returns-then-first-lt253
-returns-then-first-lt253 c = first_is_all _ _ _ c.if-first-lt253.true
 
 pub read_le-requires : goal.read_le-requires
 read_le-requires c =

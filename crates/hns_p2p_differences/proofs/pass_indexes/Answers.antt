@@ -1,5 +1,4 @@
 -- `pass_indexes` meets its contract: what is passed and what is left are the whole list.
-use Prim.Native.Nat.{◌-◌}
 use native.Mathlib.Omega.{arith}
 use Rattle.hns_p2p_differences.proofs.Differences.{pass_start, pass_group, pass_refused, pass_most, pass_over, pass_next, pass_end}
 use Rattle.hns_p2p_differences.proofs.pass_indexes.Goals as goal

@@ -1,5 +1,4 @@
 -- `run_sum` meets its contract. Assumes nothing.
-use Prim.Native.Nat.{◌-◌}
 use native.Mathlib.Omega.{arith}
 use Rattle.hns_p2p_differences.proofs.Differences.{run_start, run_turn, run_alone, no_run}
 use Rattle.hns_p2p_differences.proofs.run_sum.Goals as goal

@@ -1,5 +1,4 @@
 -- `walk_group` meets its contract. Assumes nothing.
-use Prim.Native.Nat.{◌-◌}
 use native.Mathlib.Omega.{arith}
 use Rattle.hns_p2p_differences.proofs.Differences.{walk_start, walk_inside, walk_one, walk_three, walk_end, no_group}
 use Rattle.hns_p2p_differences.proofs.walk_group.Goals as goal

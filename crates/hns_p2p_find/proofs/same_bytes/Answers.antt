@@ -1,5 +1,4 @@
 -- `same_bytes` meets its contract. Assumes nothing.
-use Prim.Native.Nat.{◌-◌}
 use mathlib.Core.Path.{◌≡◌, ap, ◌∙◌}
 use native.Mathlib.Omega.{arith}
 use Rattle.hns_p2p_find.specs.Helpers.{agree}

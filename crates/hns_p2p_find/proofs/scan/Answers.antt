@@ -1,5 +1,5 @@
 -- `scan` meets its contract: no item that is passed has the hash. Assumes nothing.
-use Prim.Native.Nat.{◌+◌, ◌*◌, ◌-◌}
+use Prim.Native.Nat.{◌+◌, ◌*◌}
 use native.Mathlib.Omega.{arith}
 use Rattle.hns_p2p_find.specs.Helpers.{Scanned}
 use Rattle.hns_p2p_find.proofs.Finding.{hash_same, hash_other, none_next}

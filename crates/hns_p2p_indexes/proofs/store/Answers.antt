@@ -1,5 +1,4 @@
 -- `store` meets its contract: what is stored and what is left are the whole list. Assumes nothing.
-use Prim.Native.Nat.{◌-◌}
 use native.Mathlib.Omega.{arith}
 use Rattle.hns_p2p_indexes.proofs.Storing.{store_start, store_there, store_small, store_next, store_end}
 use Rattle.hns_p2p_indexes.proofs.store.Goals as goal

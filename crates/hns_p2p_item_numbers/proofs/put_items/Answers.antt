@@ -1,5 +1,4 @@
 -- `put_items` meets its contract: what is stored and what is left are all items. Assumes nothing.
-use Prim.Native.Nat.{◌-◌}
 use native.Mathlib.Omega.{arith}
 use Rattle.hns_p2p_item_numbers.proofs.Storing.{store_start, store_room, store_inside, store_next, store_end}
 use Rattle.hns_p2p_item_numbers.proofs.put_items.Goals as goal

@@ -1,10 +1,7 @@
-use Rattle.hns_encoding.proofs.Forms.{byte_alone, wide_bytes, two, four, eight}
+use Rattle.hns_encoding.proofs.Forms.{wide_bytes, two, four, eight}
 use Rattle.hns_encoding.proofs.Puts.{then}
 use native.Mathlib.Omega.{arith}
 use Rattle.hns_encoder.proofs.Encoder.put_compact_size.Goals as goal
-
-pub returns-then-value-lt253 : goal.returns-then-value-lt253
-returns-then-value-lt253 c = rw (byte_alone c.args.value (omega arith)) c.put_u8.ensures
 
 pub returns-then-value-lt65536 : goal.returns-then-value-lt65536
 returns-then-value-lt65536 c = rw (wide_bytes two c.args.value (omega arith) (omega arith)) (then (omega arith) c.put_u8-then-value-lt65536.ensures c.put_u16_le.ensures)
