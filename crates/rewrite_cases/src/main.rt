@@ -135,7 +135,7 @@ fn run(
     input: &mut impl Read,
     buffer: &mut [u8],
     case: &mut [u8],
-    payload: &mut [u8],
+    payload: &mut [u8; PAYLOAD_ROOM],
     out: &mut [u8],
 ) -> io::Result<()> {
     let mut lines = case_input::first_case(input, buffer, case)?;

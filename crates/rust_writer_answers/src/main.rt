@@ -162,7 +162,7 @@ fn run(
     input: &mut impl Read,
     buffer: &mut [u8],
     case: &mut [u8],
-    long: &mut [u8],
+    long: &mut [u8; LONG_ROOM],
 ) -> io::Result<()> {
     let mut lines = case_input::first_case(input, buffer, case)?;
     while 0 < lines.left {

@@ -253,8 +253,8 @@ fn run(
     rt: &impl Print,
     input: &mut impl Read,
     buffer: &mut [u8],
-    case: &mut [u8],
-    out: &mut [u8],
+    case: &mut [u8; ROOM],
+    out: &mut [u8; ROOM],
 ) -> io::Result<()> {
     let mut lines = case_input::first_case(input, buffer, case)?;
     while 0 < lines.left {
