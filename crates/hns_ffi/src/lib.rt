@@ -1,4 +1,6 @@
 //! The port for callers in C and Rust: numbers and byte slices in, rows of six numbers out.
+//!
+//! A library exports nothing, whatever its functions say: hns_ffi_c has the exports, and the test programs call this one.
 #![tactic(auto)]
 
 ghost use Rattle.std.specs.Prelude.{◌≡◌, ◌∷◌, [], length};

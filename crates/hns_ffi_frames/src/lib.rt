@@ -1,4 +1,6 @@
 //! Frames and the stream for callers in C and Rust, beside hns_ffi: numbers and byte slices in, rows of six numbers out.
+//!
+//! A library exports nothing, whatever its functions say: hns_ffi_frames_c has the exports, and the test programs call this one.
 #![tactic(auto)]
 
 ghost use Rattle.std.specs.Prelude.{◌≡◌};

@@ -1,5 +1,7 @@
 //! Packets read, and rights by role, for callers in C and Rust: numbers and byte slices in, rows of numbers out. `terms` are
 //! the numbers that a payload is read under (hns_p2p_rights).
+//!
+//! A library exports nothing, whatever its functions say: hns_ffi_packets_c has the exports, and the test programs call this one.
 #![tactic(auto)]
 
 ghost use Rattle.std.specs.Prelude.{◌≡◌};

@@ -1,5 +1,7 @@
 //! The packet writers for callers in C and Rust: numbers and byte slices in, the bytes into a lent output, and a row of six numbers out.
 //! A hash or a key is the front of a slice, zeros where there are fewer bytes.
+//!
+//! A library exports nothing, whatever its functions say: hns_ffi_writers_c has the exports, and the test programs call this one.
 #![tactic(auto)]
 
 ghost use Rattle.std.specs.Prelude.{◌≡◌};
