@@ -8,3 +8,6 @@ pub returns-else-same_bytes : goal.returns-else-same_bytes
 returns-else-same_bytes c =
     let a = c.args in
     agree_less 8 32 a.payload.now a.at a.hash (omega arith) (sym c.same_bytes.ensures ∙ c.if-same_bytes.false)
+
+pub returns-then-same_bytes : goal.returns-then-same_bytes
+returns-then-same_bytes c = c.same_bytes-then-same_bytes.ensures
