@@ -111,5 +111,6 @@ pub fn length_card(packet_type: u8) -> Row
     ensures { result ≡ card_row packet_type }
 {
     let place = packet_type as usize;
-    if place < 30 { CARD[place] } else { RAW }
+    let in_table = place < 30;
+    if in_table { CARD[place] } else { RAW }
 }

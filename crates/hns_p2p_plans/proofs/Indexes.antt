@@ -63,22 +63,29 @@ pub too_many : (s : List ℕ) → 16662 < length s → {r : Refusal} → r ≡ t
 unfolding index_tests few_indexes first plan_of
 too_many s h e = rw (lt-leb _ _ h) (ap P.Refused e)
 
+few_tests : (s : List ℕ) → length s ≤ 16662 → index_tests s ≡ rising 0 0 s
+unfolding index_tests few_indexes first
+few_tests s few = rw (le-leb _ _ few)
+
+next_tested : (s : List ℕ) (base i : ℕ) → i < length s → rising i base (drop i s) ≡ choose (leb (get_or s i 0) 65535) (choose (leb base (get_or s i 0)) (rising (i + 1) (get_or s i 0 + 1) (drop (i + 1) s)) (C.Refused (not_rising i))) (C.Refused (index_too_large i))
+unfolding rising
+next_tested s base i h = rw (drop_next s i h)
+
+-- in the parts of `Tested` that it needs, so that a search finds them
+pub large : (s : List ℕ) (base i : ℕ) → length s ≤ 16662 → rising i base (drop i s) ≡ rising 0 0 s → i < length s → 65535 < get_or s i 0 → {r : Refusal} → r ≡ index_too_large i → P.Refused r ≡ plan_of (index_tests s) (length (differences 0 s))
+unfolding plan_of
+large s base i few rest h k e = rw (few_tests s few, ← rest, next_tested s base i h, lt-leb _ _ k) (ap P.Refused e)
+
 module _ {s : List ℕ} {base size i : ℕ} (t : Tested s base size i) where
   whole_tests : index_tests s ≡ rising 0 0 s
-  unfolding index_tests few_indexes first
-  whole_tests = rw (le-leb _ _ t.few)
+  whole_tests = few_tests s t.few
 
   module _ (h : i < length s) where
     abbrev here : ℕ
     here = get_or s i 0
 
     one_more : rising i base (drop i s) ≡ choose (leb here 65535) (choose (leb base here) (rising (i + 1) (here + 1) (drop (i + 1) s)) (C.Refused (not_rising i))) (C.Refused (index_too_large i))
-    unfolding rising
-    one_more = rw (drop_next s i h)
-
-    pub large : 65535 < here → {r : Refusal} → r ≡ index_too_large i → P.Refused r ≡ plan_of (index_tests s) (length (differences 0 s))
-    unfolding plan_of
-    large k e = rw (whole_tests, ← t.rest, one_more, lt-leb _ _ k) (ap P.Refused e)
+    one_more = next_tested s base i h
 
     module _ (small : here ≤ 65535) where
       pub falls : here < base → {r : Refusal} → r ≡ not_rising i → P.Refused r ≡ plan_of (index_tests s) (length (differences 0 s))

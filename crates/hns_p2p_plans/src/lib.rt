@@ -31,6 +31,7 @@ fn check_within(actual: usize, maximum: usize, field: u64) -> Checked
 }
 
 // Refusal 7, then 10.
+#[tactic(auto, using(crate::proofs::Texts::high_byte))]
 fn check_text(text: &[u8], field: u64) -> Checked
     ensures { result ≡ text_tests field text.now }
 {
@@ -89,6 +90,7 @@ fn compact_length(value: u64) -> usize
 }
 
 // Refusal 12, then 13 and 14 at each place; the length of the differences comes from the same pass.
+#[tactic(auto, using(crate::proofs::Indexes::large))]
 fn measure_indexes(indexes: &[u64]) -> Plan
     ensures { result ≡ plan_of (index_tests indexes.now) (length (differences 0 indexes.now)) }
 {
@@ -116,6 +118,7 @@ fn measure_indexes(indexes: &[u64]) -> Plan
 }
 
 // Refusal 5, then 16: a payload of so many bytes, and an output of so many.
+#[tactic(auto, using(crate::proofs::Tests::too_large, crate::proofs::Tests::too_short, crate::proofs::Tests::has_room))]
 pub fn plan_room(needed: usize, there: usize) -> Plan
     ensures { result ≡ planned Passed needed there }
 {

@@ -187,6 +187,7 @@ pub fn of_granted(granted: Granted) -> [u64; 6]
     }
 }
 
+#[tactic(auto, using(crate::proofs::Networks::mainnet, crate::proofs::Networks::testnet, crate::proofs::Networks::regtest, crate::proofs::Networks::simnet))]
 pub fn network_of(network: u8) -> NetworkMagic
     ensures { result ≡ network_of network }
 {

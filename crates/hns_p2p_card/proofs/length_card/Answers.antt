@@ -12,10 +12,10 @@ use Rattle.hns_p2p_card.proofs.length_card.Goals as goal
 inside : {A : Type 0} (l : List A) (d e : A) (n : ℕ) → n < length l → get_or l n d ≡ get_or l n e
 inside l d e n h = cc (drop-cons l n d h, drop-cons l n e h)
 
-pub returns-then-place-lt30 : goal.returns-then-place-lt30
+pub returns-then-in_table : goal.returns-then-in_table
 unfolding card_row rows
-returns-then-place-lt30 c = inside rows _ any_bytes c.args.packet_type (omega (arith, c.if-place-lt30.true))
+returns-then-in_table c = inside rows _ any_bytes c.args.packet_type (omega (arith, c.if-in_table.true))
 
-pub returns-else-place-lt30 : goal.returns-else-place-lt30
+pub returns-else-in_table : goal.returns-else-in_table
 unfolding card_row rows
-returns-else-place-lt30 c = sym (get_or-eq_default rows any_bytes {n = c.args.packet_type} (omega (arith, c.if-place-lt30.false)))
+returns-else-in_table c = sym (get_or-eq_default rows any_bytes {n = c.args.packet_type} (omega (arith, c.if-in_table.false)))

@@ -1,7 +1,7 @@
 use mathlib.Core.Path.{refl}
 use native.Mathlib.Omega.{arith}
 use borrow.Author.Rules.{rules}
-use Rattle.hns_p2p_plans.proofs.Texts.{text_long, high_byte, low_byte, all_low}
+use Rattle.hns_p2p_plans.proofs.Texts.{text_long, low_byte, all_low}
 use Rattle.hns_p2p_plans.proofs.check_text.Goals as goal
 
 pub returns-then-n-gt-MAX_USER_AGENT_SIZE : goal.returns-then-n-gt-MAX_USER_AGENT_SIZE
@@ -10,12 +10,9 @@ returns-then-n-gt-MAX_USER_AGENT_SIZE c = text_long _ _ c.if-n-gt-MAX_USER_AGENT
 pub loop-i-init : goal.loop-i-init
 loop-i-init c = (search rules, refl)
 
-pub returns-then-text-i-gt127 : goal.returns-then-text-i-gt127
-returns-then-text-i-gt127 c = high_byte _ _ c.if-n-gt-MAX_USER_AGENT_SIZE.false _ c.loop-i.invariant.1 (omega arith) c.if-text-i-gt127.true c.not_ascii.ensures
-
 pub loop-i-preserved : goal.loop-i-preserved
 loop-i-preserved c =
-    (c.loop-i.invariant.0, low_byte c.args.field _ c.if-n-gt-MAX_USER_AGENT_SIZE.false _ c.loop-i.invariant.1 (omega arith) c.if-text-i-gt127.false)
+    (c.loop-i.invariant.0, low_byte c.args.field _ c.if-n-gt-MAX_USER_AGENT_SIZE.false _ c.loop-i.invariant.1 (omega arith) (omega arith))
 
 pub returns : goal.returns
 returns c = all_low _ _ c.if-n-gt-MAX_USER_AGENT_SIZE.false c.loop-i.i c.loop-i.invariant.1 (omega arith)
