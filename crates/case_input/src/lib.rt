@@ -1,13 +1,13 @@
 //! Cases of test programs: a line of an input is a case in hexadecimal. A program asks for one case after the other, and the
-//! loop over them is its own. A read that fails is answered as the error that it gave.
+//! loop over them is its own.
 #![tactic(auto)]
 
-ghost use Rattle.std.specs.Prelude.{◌≡◌, ◌-◌, ◌<◌, ◌≤◌, length, drop, IfOk};
+ghost use Rattle.std.specs.Prelude.{◌≡◌, ◌-◌, ◌<◌, ◌≤◌, length, drop};
 ghost use Rattle.hns_encoding.specs.Bytes.{number_at};
 ghost use Rattle.case_input.specs.Zeros.{Zeros, Around, Cleared};
 
 use hns_encoder::Encoder;
-use std::io::{self, Read};
+use std::io::Read;
 
 // How far the input is taken.
 #[derive(Clone, Copy)]
@@ -26,36 +26,41 @@ pub struct Lines {
     at: usize,
 }
 
-// Reads until the buffer is full or the input ends, and answers how many bytes that gave.
-fn fill(input: &mut impl Read, buffer: &mut [u8]) -> io::Result<usize>
-    ensures { IfOk result (λ n. n ≤ length buffer.old) }
+// Reads until the buffer is full or the input ends, and answers how many bytes that gave. A read that fails is taken for the
+// end: a program that loses its cases so prints less than its file `stdout` holds, and `rt ci` compares the two. So no caller
+// has an error to hand on, and what is promised of an answer holds of each.
+fn fill(input: &mut impl Read, buffer: &mut [u8]) -> usize
+    ensures { result ≤ length buffer.old }
 {
     let mut filled: usize = 0;
     while filled < buffer.len() {
-        let n = input.read(&mut buffer[filled..])?;
+        let n = match input.read(&mut buffer[filled..]) {
+            Ok(n) => n,
+            Err(_) => 0,
+        };
         if n == 0 {
-            return Ok(filled);
+            return filled;
         }
         filled += n;
     }
-    Ok(filled)
+    filled
 }
 
 // Reads on, into the whole buffer.
-fn read_on(lines: Lines, input: &mut impl Read, buffer: &mut [u8]) -> io::Result<Lines>
+fn read_on(lines: Lines, input: &mut impl Read, buffer: &mut [u8]) -> Lines
     requires { 0 < lines.left }
-    ensures { IfOk result (λ next. (next.left ≤ lines.left - 1) × (next.size ≡ lines.size)) }
+    ensures { (result.left ≤ lines.left - 1) × (result.size ≡ lines.size) }
 {
-    let filled = fill(input, buffer)?;
+    let filled = fill(input, buffer);
     let left = if filled == 0 { 0 } else { lines.left - 1 };
-    Ok(Lines {
+    Lines {
         left,
         size: lines.size,
         half: lines.half,
         whole: false,
         filled,
         at: 0,
-    })
+    }
 }
 
 // Takes a digit: two make a byte. One that there is no room for is passed over.
@@ -80,14 +85,9 @@ fn take_digit(lines: Lines, digit: u8, case: &mut [u8]) -> Lines
 }
 
 // Takes the next byte of the buffer, which is filled again where there is none.
-fn step(
-    lines: Lines,
-    input: &mut impl Read,
-    buffer: &mut [u8],
-    case: &mut [u8],
-) -> io::Result<Lines>
+fn step(lines: Lines, input: &mut impl Read, buffer: &mut [u8], case: &mut [u8]) -> Lines
     requires { (0 < lines.left) × (lines.size ≤ length case.old) }
-    ensures { IfOk result (λ next. (next.left ≤ lines.left - 1) × (next.size ≤ length case.old)) }
+    ensures { (result.left ≤ lines.left - 1) × (result.size ≤ length case.old) }
 {
     let at = lines.at;
     if lines.filled <= at {
@@ -99,35 +99,30 @@ fn step(
     next.left -= 1;
     if byte == 10 {
         next.whole = true;
-        return Ok(next);
+        return next;
     }
-    Ok(take_digit(next, byte, case))
+    take_digit(next, byte, case)
 }
 
 // The next case, where steps are left. The input and the buffer are those that were lent before, as they were left.
-pub fn next_case(
-    lines: Lines,
-    input: &mut impl Read,
-    buffer: &mut [u8],
-    case: &mut [u8],
-) -> io::Result<Lines>
-    ensures { IfOk result (λ next. (next.left ≤ lines.left - 1) × (next.size ≤ length case.old)) }
+pub fn next_case(lines: Lines, input: &mut impl Read, buffer: &mut [u8], case: &mut [u8]) -> Lines
+    ensures { (result.left ≤ lines.left - 1) × (result.size ≤ length case.old) }
 {
     let mut now = lines;
     now.size = 0;
     now.half = false;
     now.whole = false;
     while 0 < now.left {
-        now = step(now, input, buffer, case)?;
+        now = step(now, input, buffer, case);
         if now.whole {
-            return Ok(now);
+            return now;
         }
     }
-    Ok(now)
+    now
 }
 
-pub fn first_case(input: &mut impl Read, buffer: &mut [u8], case: &mut [u8]) -> io::Result<Lines>
-    ensures { IfOk result (λ first. first.size ≤ length case.old) }
+pub fn first_case(input: &mut impl Read, buffer: &mut [u8], case: &mut [u8]) -> Lines
+    ensures { result.size ≤ length case.old }
 {
     let before = Lines {
         left: 18_446_744_073_709_551_615,

@@ -138,11 +138,11 @@ fn run(
     payload: &mut [u8; PAYLOAD_ROOM],
     out: &mut [u8],
 ) -> io::Result<()> {
-    let mut lines = case_input::first_case(input, buffer, case)?;
+    let mut lines = case_input::first_case(input, buffer, case);
     while 0 < lines.left {
         answer(rt, hns_encoding::first(case, lines.size), payload, out)?;
         case_lines::end_line(rt)?;
-        lines = case_input::next_case(lines, input, buffer, case)?;
+        lines = case_input::next_case(lines, input, buffer, case);
     }
     Ok(())
 }

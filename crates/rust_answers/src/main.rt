@@ -158,11 +158,11 @@ fn run(
     buffer: &mut [u8],
     case: &mut [u8],
 ) -> io::Result<()> {
-    let mut lines = case_input::first_case(input, buffer, case)?;
+    let mut lines = case_input::first_case(input, buffer, case);
     while 0 < lines.left {
         answer(rt, hns_encoding::first(case, lines.size))?;
         case_lines::end_line(rt)?;
-        lines = case_input::next_case(lines, input, buffer, case)?;
+        lines = case_input::next_case(lines, input, buffer, case);
     }
     Ok(())
 }

@@ -297,7 +297,7 @@ fn run(
     store: &mut [u8],
     output: &mut [u8],
 ) -> io::Result<()> {
-    let mut lines = case_input::first_case(input, buffer, case)?;
+    let mut lines = case_input::first_case(input, buffer, case);
     while 0 < lines.left {
         answer(
             rt,
@@ -307,7 +307,7 @@ fn run(
             output,
         )?;
         case_lines::end_line(rt)?;
-        lines = case_input::next_case(lines, input, buffer, case)?;
+        lines = case_input::next_case(lines, input, buffer, case);
     }
     Ok(())
 }

@@ -256,11 +256,11 @@ fn run(
     case: &mut [u8; ROOM],
     out: &mut [u8; ROOM],
 ) -> io::Result<()> {
-    let mut lines = case_input::first_case(input, buffer, case)?;
+    let mut lines = case_input::first_case(input, buffer, case);
     while 0 < lines.left {
         answer(rt, case, lines.size, out)?;
         case_lines::end_line(rt)?;
-        lines = case_input::next_case(lines, input, buffer, case)?;
+        lines = case_input::next_case(lines, input, buffer, case);
     }
     Ok(())
 }
