@@ -135,7 +135,7 @@ fn run(
     input: &mut impl Read,
     buffer: &mut [u8],
     case: &mut [u8],
-    payload: &mut [u8; PAYLOAD_ROOM],
+    payload: &mut [u8],
     out: &mut [u8],
 ) -> io::Result<()> {
     let mut lines = case_input::first_case(input, buffer, case);
@@ -145,6 +145,12 @@ fn run(
         lines = case_input::next_case(lines, input, buffer, case);
     }
     Ok(())
+}
+
+// An array as a slice. `main` knows each byte of its array, and a proof there that counts them takes a step for each; here the
+// type says how many there are.
+fn whole(array: &mut [u8; PAYLOAD_ROOM]) -> &mut [u8] {
+    array
 }
 
 fn main(rt: HostRuntime) -> io::Result<()> {
@@ -158,7 +164,7 @@ fn main(rt: HostRuntime) -> io::Result<()> {
         &mut input,
         &mut buffer,
         &mut case,
-        &mut payload,
+        whole(&mut payload),
         &mut out,
     )
 }

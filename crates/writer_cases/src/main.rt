@@ -253,8 +253,8 @@ fn run(
     rt: &impl Print,
     input: &mut impl Read,
     buffer: &mut [u8],
-    case: &mut [u8; ROOM],
-    out: &mut [u8; ROOM],
+    case: &mut [u8],
+    out: &mut [u8],
 ) -> io::Result<()> {
     let mut lines = case_input::first_case(input, buffer, case);
     while 0 < lines.left {
@@ -265,10 +265,22 @@ fn run(
     Ok(())
 }
 
+// An array as a slice. `main` knows each byte of its array, and a proof there that counts them takes a step for each; here the
+// type says how many there are.
+fn whole(array: &mut [u8; ROOM]) -> &mut [u8] {
+    array
+}
+
 fn main(rt: HostRuntime) -> io::Result<()> {
     let mut input = rt.stdin();
     let mut buffer = [0u8; 65_536];
     let mut case = [0u8; ROOM];
     let mut out = [0u8; ROOM];
-    run(&rt, &mut input, &mut buffer, &mut case, &mut out)
+    run(
+        &rt,
+        &mut input,
+        &mut buffer,
+        whole(&mut case),
+        whole(&mut out),
+    )
 }
