@@ -147,12 +147,6 @@ fn run(
     Ok(())
 }
 
-// An array as a slice. `main` knows each byte of its array, and a proof there that counts them takes a step for each; here the
-// type says how many there are.
-fn whole(array: &mut [u8; PAYLOAD_ROOM]) -> &mut [u8] {
-    array
-}
-
 fn main(rt: HostRuntime) -> io::Result<()> {
     let mut input = rt.stdin();
     let mut buffer = [0u8; 4_096];
@@ -164,7 +158,7 @@ fn main(rt: HostRuntime) -> io::Result<()> {
         &mut input,
         &mut buffer,
         &mut case,
-        whole(&mut payload),
+        case_input::whole(&mut payload),
         &mut out,
     )
 }

@@ -269,16 +269,16 @@ fn run(
     Ok(())
 }
 
-// An array as a slice. `main` knows each byte of its array, and a proof there that counts them takes a step for each; here the
-// type says how many there are.
-fn whole(array: &mut [u8; LONG_ROOM]) -> &mut [u8] {
-    array
-}
-
 fn main(rt: HostRuntime) -> io::Result<()> {
     let mut input = rt.stdin();
     let mut buffer = [0u8; 4_096];
     let mut case = [0u8; ROOM];
     let mut long = [0u8; LONG_ROOM];
-    run(&rt, &mut input, &mut buffer, &mut case, whole(&mut long))
+    run(
+        &rt,
+        &mut input,
+        &mut buffer,
+        &mut case,
+        case_input::whole(&mut long),
+    )
 }

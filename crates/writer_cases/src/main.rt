@@ -265,12 +265,6 @@ fn run(
     Ok(())
 }
 
-// An array as a slice. `main` knows each byte of its array, and a proof there that counts them takes a step for each; here the
-// type says how many there are.
-fn whole(array: &mut [u8; ROOM]) -> &mut [u8] {
-    array
-}
-
 fn main(rt: HostRuntime) -> io::Result<()> {
     let mut input = rt.stdin();
     let mut buffer = [0u8; 65_536];
@@ -280,7 +274,7 @@ fn main(rt: HostRuntime) -> io::Result<()> {
         &rt,
         &mut input,
         &mut buffer,
-        whole(&mut case),
-        whole(&mut out),
+        case_input::whole(&mut case),
+        case_input::whole(&mut out),
     )
 }
