@@ -1,9 +1,9 @@
--- The answer of type 22: mode and version.
-use Rattle.std.specs.Prelude.{ℕ}
+-- What a read answers that keeps the place itself.
+use Rattle.std.specs.Prelude.{Ok, Err}
+use Rattle.hns_refusals.specs.Refusals.{Answer}
 use Rattle.hns_encoding.specs.Bytes.{Outcome, got, stop}
-use Rattle.hns_decoder.specs.declared.SendCompact.{SendCompact}
-use Rattle.hns_decoder.specs.declared.SendCompact.TheVariants as S
 
-unfoldable pub send_compact_of : Outcome (ℕ × ℕ) → SendCompact
-send_compact_of (got v next) = S.Fields v.0 v.1
-send_compact_of (stop r) = S.Refused r
+-- a value or the refusal; of type 22, mode and version
+unfoldable pub value_of : {A : Type 0} → Outcome A → Answer A
+value_of (got v next) = Ok v
+value_of (stop r) = Err r

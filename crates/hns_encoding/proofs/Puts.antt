@@ -1,12 +1,14 @@
 -- Laws of puts: a run of them is one put of the bytes one after the other, and what was put reads back. Assumes nothing.
-use Prim.Native.Nat.{ℕ, suc, ◌+◌, ◌-◌, ◌/◌, ◌%◌, ◌^◌, ◌≤◌, ◌<◌, min}
+use Prim.Native.Nat.{ℕ, zero, suc, ◌+◌, ◌-◌, ◌/◌, ◌%◌, ◌^◌, ◌≤◌, ◌<◌, min}
 use mathlib.Core.Path.{◌≡◌, refl, sym, ap, ◌∙◌}
 use mathlib.Core.List.{List, [], ◌∷◌, ◌++◌, append_assoc, append-nil}
 use mathlib.Core.Logic.{⊎_elim}
 use native.Mathlib.Omega.{arith}
-use native.Mathlib.Nat.{add-zero, min-eq_left}
+use native.Mathlib.Nat.{add-zero, min-eq_left, pow-suc, div-div-eq-div-mul}
 use lib.ListN.{length, take, drop, set, length-append, take-append-drop, drop_of_length-le}
-use lib.Seq.{sets, sets-eq, length-sets, set_out, take_all, length-take-le, take-length, paste}
+use lib.Seq.{sets, sets-eq, length-sets, set_out, take_all, length-take-le, take-length, paste, paste-zero, drop-drop}
+use borrow.Rule.Slice.PartMut.{put_mid}
+use Rattle.std.specs.Int.{byte_at, bytes_low_first}
 use Rattle.hns_encoding.specs.Bytes.{le_bytes, Outcome, got}
 use Rattle.hns_encoding.specs.Put.{splice, advance, Put}
 use Rattle.hns_encoding.specs.Laws.{Reads}
@@ -119,6 +121,30 @@ then {o} {p} {x} {o₁} {p₁} {y} {o₂} {p₂} h a b =
 pub put_length : {o : List ℕ} {p : ℕ} {x : List ℕ} {o₁ : List ℕ} {p₁ : ℕ} → Put o p x o₁ p₁ → length o₁ ≡ length o
 put_length {o} {p} {x} a = ap length a.bytes ∙ length_splice o p x
 
+-- as many bytes as fit were stored: `at` is where, and k how many
+pub put_stored : {o : List ℕ} {p : ℕ} {x : List ℕ} {at n k : ℕ} {y : List ℕ} {p' : ℕ} → at ≡ min p (length o) → n ≡ min (length x) (length o - at) → k ≡ n → y ≡ take n x → p' ≡ min (p + length x) (2 ^ 64 - 1) → Put o p x (put_mid at k o y) p'
+unfolding advance
+put_stored {o} {p} {x} {at} {n} {k} {y} f g e same after =
+    record {
+      next = after;
+      bytes = put ∙ ⊎_elim inside past (lt_or_ge p (length o));
+    }
+  where
+    put : put_mid at k o y ≡ paste o at x n
+    put = rw (same, e, drop-drop) (sym (append_assoc (take at o) (take n x) (drop (at + n) o)))
+
+    inside : p < length o → paste o at x n ≡ splice o p x
+    inside h = let here : at ≡ p = omega arith in pasted o p x n (omega arith) (rw here)
+
+    past : length o ≤ p → paste o at x n ≡ splice o p x
+    past h =
+        let none : n ≡ 0 = omega arith in
+        rw none (sym (paste-zero o at x)) ∙ sym (splice_past o p x h)
+
+-- all of them did
+pub put_whole : {o : List ℕ} {p : ℕ} {x : List ℕ} {at k : ℕ} {y : List ℕ} {p' : ℕ} → at ≡ min p (length o) → length x ≤ length o - at → k ≡ length x → y ≡ x → p' ≡ p + length x → p' < 2 ^ 64 → Put o p x (put_mid at k o y) p'
+put_whole {o} {p} {x} f h e same after small = put_stored f (omega arith) e (same ∙ sym (take_all (length x) x (omega arith))) (omega arith)
+
 -- nothing is put: the start of a loop
 pub put_none : (o : List ℕ) (p : ℕ) → p < 2 ^ 64 → Put o p [] o p
 unfolding advance
@@ -150,6 +176,21 @@ put_all {o} {p} {x} e h put =
 pub put_byte : {b : ℕ} {o : List ℕ} {p : ℕ} {o₁ : List ℕ} {p₁ : ℕ} → b < 256 → Put o p (b ∷ []) o₁ p₁ → Put o p (le_bytes 1 b) o₁ p₁
 unfolding le_bytes
 put_byte {b} h a = let same : b % 256 ≡ b = omega arith in rw same a
+
+-- the library's bytes of a number are its lowest bytes
+low_first : (i n v : ℕ) → bytes_low_first i n v ≡ le_bytes n (v / 256 ^ i)
+unfolding le_bytes
+low_first i zero v = refl
+low_first i (suc n) v =
+    let rest : v / 256 ^ suc i ≡ v / 256 ^ i / 256 = ap (λ (k : ℕ). v / k) (pow-suc 256 i) ∙ sym (div-div-eq-div-mul v (256 ^ i) 256) in
+    rw (low_first (suc i) n v, rest, lowest i)
+  where
+    lowest : (j : ℕ) → byte_at j v ≡ v / 256 ^ j % 256
+    lowest zero = omega arith
+    lowest (suc j) = refl
+
+pub put_number : (n v : ℕ) {x o : List ℕ} {p : ℕ} {o' : List ℕ} {p' : ℕ} → x ≡ bytes_low_first 0 n v → Put o p x o' p' → Put o p (le_bytes n v) o' p'
+put_number n v e a = let all : v / 256 ^ 0 ≡ v = omega arith in rw (e, low_first 0 n v, all) at a
 
 -- a number in two halves of k bytes
 pub put_halves : (k v : ℕ) {o : List ℕ} {p : ℕ} {o₁ : List ℕ} {p₁ : ℕ} {o₂ : List ℕ} {p₂ : ℕ} → length o < 2 ^ 64

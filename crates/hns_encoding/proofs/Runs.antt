@@ -5,12 +5,11 @@ use mathlib.Core.List.{List, [], ◌∷◌, ◌++◌, append_assoc, append-nil}
 use native.Mathlib.Omega.{arith}
 use native.Mathlib.Nat.{zero-add}
 use lib.ListN.{length, set, length-append}
+use Rattle.std.specs.Prelude.{Result, Ok, Err}
 use Rattle.hns_refusals.specs.declared.Refusal.{Refusal}
-use Rattle.hns_encoding.specs.declared.Number.{Number}
-use Rattle.hns_encoding.specs.declared.Number.TheVariants as N
 use Rattle.hns_encoding.specs.Compact.{compact_at, Run, further, sizes_at}
 use Rattle.hns_encoding.specs.Put.{splice}
-use Rattle.hns_encoding.specs.Answers.{number_of, sizes_of}
+use Rattle.hns_encoding.specs.Answers.{result_of, sizes_of}
 use Rattle.hns_encoding.proofs.Reading.{value_read, refusal_read}
 use Rattle.hns_encoding.proofs.Puts.{splice_fits, splice_append, splice_byte, length_splice}
 
@@ -35,17 +34,14 @@ read_start s p o =
       rest = let all : length o - 0 ≡ length o = omega arith in rw all;
     }
 
-pub read_length : {s : List ℕ} {p : ℕ} {o₀ o : List ℕ} {count next : ℕ} → ReadTo s p o₀ o count next → length o ≡ length o₀
+read_length : {s : List ℕ} {p : ℕ} {o₀ o : List ℕ} {count next : ℕ} → ReadTo s p o₀ o count next → length o ≡ length o₀
 read_length {o₀ = o₀} t = ap length t.stored ∙ length_splice o₀ 0 t.read
 
 -- nothing more is read
 module _ {s : List ℕ} {p : ℕ} {o₀ o : List ℕ} {count next : ℕ} (t : ReadTo s p o₀ o count next) where
-  pub full_test : count < length o → count < length o₀
-  full_test h = omega (arith, read_length t)
-
-  pub full_here : length o ≤ count → sizes_at (length o₀ - count) s next ≡ record { values = []; next = next }
+  pub full_here : length o₀ ≤ count → sizes_at (length o₀ - count) s next ≡ record { values = []; next = next }
   unfolding sizes_at
-  full_here h = let none : length o₀ - count ≡ 0 = omega (arith, read_length t) in rw none
+  full_here h = let none : length o₀ - count ≡ 0 = omega arith in rw none
 
   ended : sizes_at (length o₀ - count) s next ≡ record { values = []; next = next } → sizes_at (length o₀) s p ≡ record { values = t.read; next = next }
   ended e = t.rest ∙ rw (e, append-nil)
@@ -53,6 +49,10 @@ module _ {s : List ℕ} {p : ℕ} {o₀ o : List ℕ} {count next : ℕ} (t : Re
   pub ended_answer : sizes_at (length o₀ - count) s next ≡ record { values = []; next = next } → record { count = count; next = next } ≡ sizes_of (sizes_at (length o₀) s p)
   unfolding sizes_of
   ended_answer e = rw (ended e, t.many)
+
+  -- every place has a value
+  pub full_answer : length o₀ ≤ count → record { count = length o; next = next } ≡ sizes_of (sizes_at (length o₀) s p)
+  full_answer h = let all : length o ≡ count = omega (arith, read_length t, t.room) in rw all (ended_answer (full_here h))
 
   pub ended_values : sizes_at (length o₀ - count) s next ≡ record { values = []; next = next } → o ≡ splice o₀ 0 (sizes_at (length o₀) s p).values
   ended_values e = rw (ended e) t.stored
@@ -63,10 +63,10 @@ module _ {s : List ℕ} {p : ℕ} {o₀ o : List ℕ} {count next : ℕ} (t : Re
   unfolding sizes_at
   one_left = let more : length o₀ - count ≡ suc (length o₀ - (count + 1)) = omega arith in rw more
 
-  pub refused_here : {read : Number} {r : Refusal} → read ≡ number_of (compact_at s next) → read ≡ N.Refused r → sizes_at (length o₀ - count) s next ≡ record { values = []; next = next }
+  pub refused_here : {read : Result (ℕ × ℕ) Refusal} {r : Refusal} → read ≡ result_of (compact_at s next) → read ≡ Err r → sizes_at (length o₀ - count) s next ≡ record { values = []; next = next }
   refused_here e g = one_left ∙ rw (refusal_read (compact_at s next) e g)
 
-  pub one_more : {read : Number} {v after : ℕ} → read ≡ number_of (compact_at s next) → read ≡ N.Value v after → ReadTo s p o₀ (set o count v) (count + 1) after
+  pub one_more : {read : Result (ℕ × ℕ) Refusal} {v after : ℕ} → read ≡ result_of (compact_at s next) → read ≡ Ok (v, after) → ReadTo s p o₀ (set o count v) (count + 1) after
   one_more {v = v} {after = after} e g =
       record {
         read = t.read ++ v ∷ [];

@@ -1,206 +1,152 @@
-//! Little-endian wire encoding: reads on a slice and a place.
+//! Little-endian wire encoding: reads on a slice and a place. A read answers its value and the place after it, or the refusal.
 #![tactic(auto)]
 
-ghost use Rattle.std.specs.Prelude.{◌≡◌, ◌+◌, ◌≤◌, ◌<◌, length, take};
-ghost use Rattle.hns_encoding.specs.Bytes.{choose, left, bytes_at, le_at, number_at, end_at};
+ghost use Rattle.std.specs.Prelude.{◌≡◌, ◌-◌, ◌<◌, length, take, drop};
+ghost use Rattle.hns_refusals.specs.Refusals.{unexpected_end};
+ghost use Rattle.hns_encoding.specs.Bytes.{choose, left, bytes_at, le_at, number_at, raw_at, end_at};
 ghost use Rattle.hns_encoding.specs.Compact.{compact_from, compact_at, count_at, bounded_at, varbytes_at, sizes_at};
 ghost use Rattle.hns_encoding.specs.Put.{splice};
-ghost use Rattle.hns_encoding.specs.Answers.{number_of, slice_of, finished_of, sizes_of};
-ghost use Rattle.hns_encoding.specs.Helpers.{shortest_of, by_form, Read};
+ghost use Rattle.hns_encoding.specs.Answers.{result_of, range_of, finished_of, sizes_of};
+ghost use Rattle.hns_encoding.specs.Helpers.{by_form};
 
 use hns_refusals::Refusal;
-
-// A number and the place after it, or the refusal.
-#[derive(Clone, Copy)]
-pub enum Number {
-    Value(u64, usize),
-    Refused(Refusal),
-}
-
-// Bytes by their place, from `start` up to `next`, or the refusal.
-#[derive(Clone, Copy)]
-pub enum Slice {
-    Part { start: usize, next: usize },
-    Refused(Refusal),
-}
-
-#[derive(Clone, Copy)]
-pub enum Finished {
-    Done,
-    Refused(Refusal),
-}
+use std::ops::Range;
 
 // How many bytes stand from a place on: none past the end.
 pub fn remaining(input: &[u8], position: usize) -> usize
     ensures { result ≡ left input.now position }
 {
-    if position < input.len() {
-        input.len() - position
-    } else {
-        0
-    }
+    input.len().saturating_sub(position)
 }
 
 // The first n bytes, or all where there are fewer.
 pub fn first(bytes: &[u8], n: usize) -> &[u8]
     ensures { result.now ≡ take n bytes.now }
 {
-    if n < bytes.len() { &bytes[..n] } else { bytes }
+    &bytes[..n.min(bytes.len())]
 }
 
-// A byte as a number to count with: its bound is told with it.
-pub fn wide(x: u8) -> u64
-    ensures { (result ≡ x) × (result < 256) }
+// The bytes from a place on, none past the end.
+pub fn from_place(bytes: &[u8], at: usize) -> &[u8]
+    ensures { result.now ≡ drop at bytes.now }
 {
-    x as u64
+    &bytes[at.min(bytes.len())..]
 }
 
-// The number that 1, 2, 4 or 8 bytes at a place are, each as two halves. Written out, so that each is one load.
-fn le8(input: &[u8], at: usize) -> u64
-    requires { at + 1 ≤ length input.now }
-    ensures { Read 1 input.now at result }
+// The N bytes at a place, or zeros where they are not all there.
+#[tactic(auto, using(crate::proofs::Reading::array_there, crate::proofs::Reading::array_missing))]
+pub fn array_at<const N: usize>(input: &[u8], at: usize) -> [u8; N]
+    ensures { result ≡ raw_at N input.now at }
 {
-    wide(input[at])
+    match from_place(input, at).first_chunk() {
+        Some(bytes) => *bytes,
+        None => [0; N],
+    }
 }
 
-fn le16(input: &[u8], at: usize) -> u64
-    requires { at + 2 ≤ length input.now }
-    ensures { Read 2 input.now at result }
-{
-    le8(input, at) + 256 * le8(input, at + 1)
-}
-
-fn le32(input: &[u8], at: usize) -> u64
-    requires { at + 4 ≤ length input.now }
-    ensures { Read 4 input.now at result }
-{
-    le16(input, at) + 65_536 * le16(input, at + 2)
-}
-
-fn le64(input: &[u8], at: usize) -> u64
-    requires { at + 8 ≤ length input.now }
-    ensures { Read 8 input.now at result }
-{
-    le32(input, at) + 4_294_967_296 * le32(input, at + 4)
-}
-
-// The number of so many bytes at a place, or 0 where they are not all there.
-#[tactic(auto, using(crate::proofs::Reading::number_short))]
+// The number of so many bytes at a place, or 0 where they are not all there: one for each type, since the conversion is the
+// type's own method.
 pub fn u8_at(input: &[u8], at: usize) -> u8
     ensures { result ≡ number_at 1 input.now at }
 {
-    if remaining(input, at) < 1 {
-        return 0;
-    }
-    le8(input, at) as u8
+    u8::from_le_bytes(array_at(input, at))
 }
 
-#[tactic(auto, using(crate::proofs::Reading::number_short))]
 pub fn u16_at(input: &[u8], at: usize) -> u16
     ensures { result ≡ number_at 2 input.now at }
 {
-    if remaining(input, at) < 2 {
-        return 0;
-    }
-    le16(input, at) as u16
+    u16::from_le_bytes(array_at(input, at))
 }
 
-#[tactic(auto, using(crate::proofs::Reading::number_short))]
 pub fn u32_at(input: &[u8], at: usize) -> u32
     ensures { result ≡ number_at 4 input.now at }
 {
-    if remaining(input, at) < 4 {
-        return 0;
-    }
-    le32(input, at) as u32
+    u32::from_le_bytes(array_at(input, at))
 }
 
-#[tactic(auto, using(crate::proofs::Reading::number_short))]
 pub fn u64_at(input: &[u8], at: usize) -> u64
     ensures { result ≡ number_at 8 input.now at }
 {
-    if remaining(input, at) < 8 {
-        return 0;
-    }
-    le64(input, at)
+    u64::from_le_bytes(array_at(input, at))
 }
 
-// The place of n bytes, or where they end.
-pub fn read_slice(input: &[u8], position: usize, length: usize) -> Slice
-    ensures { result ≡ slice_of (bytes_at length input.now position) }
+// The bytes end in a field of so many bytes at a place.
+fn too_short(input: &[u8], position: usize, length: usize) -> Refusal
+    requires { left input.now position < length }
+    ensures { result ≡ unexpected_end position (length - left input.now position) }
 {
-    let there = remaining(input, position);
-    if length <= there {
-        Slice::Part {
-            start: position,
-            next: position + length,
-        }
-    } else {
-        Slice::Refused(Refusal::unexpected_end(position, length - there))
+    Refusal::UnexpectedEnd {
+        offset: position,
+        missing: length - remaining(input, position),
     }
 }
 
-pub fn read_u8(input: &[u8], position: usize) -> Number
-    ensures { result ≡ number_of (le_at 1 input.now position) }
+// Where n bytes stand.
+#[tactic(auto, using(crate::proofs::Reading::range_fits, crate::proofs::Reading::range_short))]
+pub fn read_slice(input: &[u8], position: usize, length: usize) -> Result<Range<usize>, Refusal>
+    ensures { result ≡ range_of (bytes_at length input.now position) }
 {
-    read_le(input, position, 1, u8_at(input, position) as u64)
+    if remaining(input, position) < length {
+        return Err(too_short(input, position, length));
+    }
+    Ok(position..position + length)
 }
 
-pub fn read_u16_le(input: &[u8], position: usize) -> Number
-    ensures { result ≡ number_of (le_at 2 input.now position) }
+// N bytes and the place after them.
+#[tactic(auto, using(crate::proofs::Reading::array_read, crate::proofs::Reading::array_short))]
+pub fn read_array<const N: usize>(
+    input: &[u8],
+    position: usize,
+) -> Result<([u8; N], usize), Refusal>
+    ensures { result ≡ result_of (bytes_at N input.now position) }
 {
-    read_le(input, position, 2, u16_at(input, position) as u64)
-}
-
-pub fn read_u32_le(input: &[u8], position: usize) -> Number
-    ensures { result ≡ number_of (le_at 4 input.now position) }
-{
-    read_le(input, position, 4, u32_at(input, position) as u64)
-}
-
-pub fn read_u64_le(input: &[u8], position: usize) -> Number
-    ensures { result ≡ number_of (le_at 8 input.now position) }
-{
-    read_le(input, position, 8, u64_at(input, position))
-}
-
-// A number of n bytes, of which `value` is what they are where they are all there.
-fn read_le(input: &[u8], position: usize, n: usize, value: u64) -> Number
-    requires { value ≡ number_at n input.now position }
-    ensures { result ≡ number_of (le_at n input.now position) }
-{
-    let there = remaining(input, position);
-    if n <= there {
-        Number::Value(value, position + n)
-    } else {
-        Number::Refused(Refusal::unexpected_end(position, n - there))
+    match from_place(input, position).first_chunk() {
+        Some(bytes) => Ok((*bytes, position + N)),
+        None => Err(too_short(input, position, N)),
     }
 }
 
-// A number of the wide form of so many bits: one below `least` has a shorter form.
-fn shortest(read: Number, least: u64, bits: u64) -> Number
-    ensures { result ≡ shortest_of least bits read }
+#[tactic(auto, using(crate::proofs::Reading::ends_answer), unfolding(crate::specs::Bytes::le_at))]
+pub fn read_u8(input: &[u8], position: usize) -> Result<(u8, usize), Refusal>
+    ensures { result ≡ result_of (le_at 1 input.now position) }
 {
-    match read {
-        Number::Value(value, next) => {
-            if least <= value {
-                Number::Value(value, next)
-            } else {
-                Number::Refused(Refusal::not_shortest(bits))
-            }
-        }
-        Number::Refused(refusal) => Number::Refused(refusal),
-    }
+    let (bytes, next) = read_array(input, position)?;
+    Ok((u8::from_le_bytes(bytes), next))
+}
+
+#[tactic(auto, using(crate::proofs::Reading::ends_answer), unfolding(crate::specs::Bytes::le_at))]
+pub fn read_u16_le(input: &[u8], position: usize) -> Result<(u16, usize), Refusal>
+    ensures { result ≡ result_of (le_at 2 input.now position) }
+{
+    let (bytes, next) = read_array(input, position)?;
+    Ok((u16::from_le_bytes(bytes), next))
+}
+
+#[tactic(auto, using(crate::proofs::Reading::ends_answer), unfolding(crate::specs::Bytes::le_at))]
+pub fn read_u32_le(input: &[u8], position: usize) -> Result<(u32, usize), Refusal>
+    ensures { result ≡ result_of (le_at 4 input.now position) }
+{
+    let (bytes, next) = read_array(input, position)?;
+    Ok((u32::from_le_bytes(bytes), next))
+}
+
+#[tactic(auto, using(crate::proofs::Reading::ends_answer), unfolding(crate::specs::Bytes::le_at))]
+pub fn read_u64_le(input: &[u8], position: usize) -> Result<(u64, usize), Refusal>
+    ensures { result ≡ result_of (le_at 8 input.now position) }
+{
+    let (bytes, next) = read_array(input, position)?;
+    Ok((u64::from_le_bytes(bytes), next))
 }
 
 // Not a branch once it is compiled.
-fn pick(test: bool, a: u64, b: u64) -> u64
+pub fn pick(test: bool, a: u64, b: u64) -> u64
     ensures { result ≡ choose test a b }
 {
     if test { a } else { b }
 }
 
 // One of three by a first byte of 253 or more. Picked, since which form comes next can't be foreseen.
+#[tactic(auto, unfolding(crate::specs::Helpers::by_form))]
 fn by_form(first: u64, two: u64, four: u64, eight: u64) -> u64
     ensures { result ≡ by_form first two four eight }
 {
@@ -209,36 +155,34 @@ fn by_form(first: u64, two: u64, four: u64, eight: u64) -> u64
 
 // What the first byte of a compact size says of the rest.
 #[tactic(auto, using(crate::proofs::Reading::first_is_all))]
-fn compact_from(input: &[u8], first: u64, next: usize) -> Number
-    ensures { result ≡ number_of (compact_from first input.now next) }
+fn compact_from(input: &[u8], first: u64, next: usize) -> Result<(u64, usize), Refusal>
+    ensures { result ≡ result_of (compact_from first input.now next) }
 {
     if first < 253 {
-        return Number::Value(first, next);
+        return Ok((first, next));
     }
-    let two = u16_at(input, next) as u64;
-    let four = u32_at(input, next) as u64;
+    let two = u64::from(u16_at(input, next));
+    let four = u64::from(u32_at(input, next));
     let value = by_form(first, two, four, u64_at(input, next));
     let width = by_form(first, 2, 4, 8);
     let least = by_form(first, 253, 65_536, 4_294_967_296);
-    shortest(
-        read_le(input, next, width as usize, value),
-        least,
-        8 * width,
-    )
+    let end = read_slice(input, next, width as usize)?.end;
+    if value < least {
+        return Err(Refusal::NotShortest { bits: 8 * width });
+    }
+    Ok((value, end))
 }
 
-pub fn read_compact_size(input: &[u8], position: usize) -> Number
-    ensures { result ≡ number_of (compact_at input.now position) }
+#[tactic(auto, using(crate::proofs::Reading::ends_answer, crate::proofs::Reading::compact_read), unfolding(crate::specs::Compact::compact_at))]
+pub fn read_compact_size(input: &[u8], position: usize) -> Result<(u64, usize), Refusal>
+    ensures { result ≡ result_of (compact_at input.now position) }
 {
-    let read = read_u8(input, position);
-    match read {
-        Number::Value(first, next) => compact_from(input, first, next),
-        Number::Refused(refusal) => Number::Refused(refusal),
-    }
+    let (first, next) = read_u8(input, position)?;
+    compact_from(input, u64::from(first), next)
 }
 
 // How many compact sizes were read, and the place after them.
-#[derive(Clone, Copy)]
+#[derive(Clone, Copy, Debug, PartialEq, Eq)]
 pub struct Sizes {
     pub count: usize,
     pub next: usize,
@@ -249,75 +193,90 @@ pub fn read_compact_sizes(input: &[u8], position: usize, values: &mut [u64]) -> 
     ensures value { result ≡ sizes_of (sizes_at (length values.old) input.now position) }
     ensures values_after { values.new ≡ splice values.old 0 (sizes_at (length values.old) input.now position).values }
 {
-    let mut count = 0;
     let mut next = position;
-    while count < values.len() {
+    for (count, place) in values.iter_mut().enumerate() {
         match read_compact_size(input, next) {
-            Number::Refused(_) => return Sizes { count, next },
-            Number::Value(value, after) => {
-                values[count] = value;
-                count += 1;
+            Err(_) => return Sizes { count, next },
+            Ok((value, after)) => {
+                *place = value;
                 next = after;
             }
         }
     }
+    let count = values.len();
     Sizes { count, next }
 }
 
 // A compact size of at most `limit`: 7 carries the code of its field.
-pub fn read_count(input: &[u8], position: usize, limit: u64, field: u64) -> Number
-    ensures { result ≡ number_of (count_at limit field input.now position) }
+#[tactic(auto, using(crate::proofs::Reading::ends_answer, crate::proofs::Reading::count_fits, crate::proofs::Reading::count_over), unfolding(crate::specs::Compact::count_at))]
+pub fn read_count(
+    input: &[u8],
+    position: usize,
+    limit: u64,
+    field: u64,
+) -> Result<(u64, usize), Refusal>
+    ensures { result ≡ result_of (count_at limit field input.now position) }
 {
-    let read = read_compact_size(input, position);
-    match read {
-        Number::Value(value, next) => {
-            if value <= limit {
-                Number::Value(value, next)
-            } else {
-                Number::Refused(Refusal::over_limit(value, limit, field))
-            }
-        }
-        Number::Refused(refusal) => Number::Refused(refusal),
+    let (value, next) = read_compact_size(input, position)?;
+    if limit < value {
+        return Err(Refusal::OverLimit {
+            actual: value,
+            maximum: limit,
+            field,
+        });
     }
+    Ok((value, next))
 }
 
 // The Rust's read, which has no field code.
-pub fn read_compact_usize(input: &[u8], position: usize, maximum: usize) -> Number
-    ensures { result ≡ number_of (count_at maximum 0 input.now position) }
+pub fn read_compact_usize(
+    input: &[u8],
+    position: usize,
+    maximum: usize,
+) -> Result<(u64, usize), Refusal>
+    ensures { result ≡ result_of (count_at maximum 0 input.now position) }
 {
     read_count(input, position, maximum as u64, 0)
 }
 
 // The Rust's read_bounded_vec: n bytes, of at most `maximum`.
-pub fn read_bounded(input: &[u8], position: usize, length: usize, maximum: usize) -> Slice
-    ensures { result ≡ slice_of (bounded_at length maximum input.now position) }
+#[tactic(auto, using(crate::proofs::Reading::bounded_fits, crate::proofs::Reading::bounded_over))]
+pub fn read_bounded(
+    input: &[u8],
+    position: usize,
+    length: usize,
+    maximum: usize,
+) -> Result<Range<usize>, Refusal>
+    ensures { result ≡ range_of (bounded_at length maximum input.now position) }
 {
     if maximum < length {
-        return Slice::Refused(Refusal::over_limit(length as u64, maximum as u64, 0));
+        return Err(Refusal::OverLimit {
+            actual: length as u64,
+            maximum: maximum as u64,
+            field: 0,
+        });
     }
     read_slice(input, position, length)
 }
 
 // A compact size of at most `maximum`, and as many bytes.
-pub fn read_varbytes(input: &[u8], position: usize, maximum: usize) -> Slice
-    ensures { result ≡ slice_of (varbytes_at maximum input.now position) }
+#[tactic(auto, using(crate::proofs::Reading::varbytes_ends, crate::proofs::Reading::varbytes_read))]
+pub fn read_varbytes(input: &[u8], position: usize, maximum: usize) -> Result<Range<usize>, Refusal>
+    ensures { result ≡ range_of (varbytes_at maximum input.now position) }
 {
-    let read = read_compact_usize(input, position, maximum);
-    match read {
-        Number::Value(length, next) => read_bounded(input, next, length as usize, maximum),
-        Number::Refused(refusal) => Slice::Refused(refusal),
-    }
+    let (length, next) = read_compact_usize(input, position, maximum)?;
+    read_bounded(input, next, length as usize, maximum)
 }
 
 // No byte may be left from `position` on.
 #[tactic(auto, using(crate::proofs::Reading::finish_done, crate::proofs::Reading::finish_left))]
-pub fn finish(input: &[u8], position: usize) -> Finished
+pub fn finish(input: &[u8], position: usize) -> Result<(), Refusal>
     ensures { result ≡ finished_of (end_at input.now position) }
 {
-    let there = remaining(input, position);
-    if there == 0 {
-        Finished::Done
+    let remaining = remaining(input, position);
+    if remaining == 0 {
+        Ok(())
     } else {
-        Finished::Refused(Refusal::trailing_bytes(there))
+        Err(Refusal::TrailingBytes { remaining })
     }
 }

@@ -10,7 +10,7 @@ use Rattle.hns_encoding.proofs.Back.{back, to_end_back}
 use Rattle.hns_encoding.proofs.Forward.{forward, mark_keep}
 use Rattle.hns_encoding.proofs.Blocks.{block_fits, fixed_length}
 use Rattle.hns_header_consensus.specs.Layout.{header, decode_header}
-use Rattle.hns_header_consensus.specs.Answers.{fields_of, decoded_of, DecodesBack, EncodesBack}
+use Rattle.hns_header_consensus.specs.Answers.{fields_of, header_of, decoded_of, DecodesBack, EncodesBack}
 
 pub decoded_back : DecodesBack
 unfolding decoded_of decode_header
@@ -25,4 +25,4 @@ unfolding decoded_of decode_header marks
 encoded_back s bs e =
     let fits = block_fits header _ s 0 (omega arith) in
     let wrote = forward header s bs 0 (omega arith) (value_at header _ s 0) 236 fits in
-    rw (eq-eqb _ _ e, fits) (wrote.same ∙ (mark_keep 236 s ∙ take_all 236 s (omega arith)))
+    (header_of (value_at header _ s 0), rw (eq-eqb _ _ e, fits), wrote.same ∙ (mark_keep 236 s ∙ take_all 236 s (omega arith)))

@@ -1,12 +1,11 @@
 -- The code's records and answers, of what the definitions give.
-use Rattle.std.specs.Prelude.{ℕ, ◌≡◌, List, length, replicate}
+use Rattle.std.specs.Prelude.{ℕ, ◌≡◌, List, length, replicate, Ok, Err}
+use Rattle.hns_refusals.specs.Refusals.{Answer}
 use Rattle.hns_refusals.specs.Limits.{block_header_size}
 use Rattle.hns_encoding.specs.Bytes.{Bytes, Outcome, got, stop}
 use Rattle.hns_encoding.specs.Format.{Value, write, Fit}
 use Rattle.hns_header_consensus.specs.Layout.{header, decode_header}
 use Rattle.hns_header_consensus.specs.declared.Header.{Header}
-use Rattle.hns_header_consensus.specs.declared.Decoded.{Decoded}
-use Rattle.hns_header_consensus.specs.declared.Answer.TheVariants as A
 
 -- the fields of a header in the order of the layout
 abbrev pub fields_of : Header → Value header
@@ -43,7 +42,7 @@ header_of v =
       mask = v.1.1.1.1.1.1.1.1.1.1;
     }
 
--- the Rust's default header, which stands beside a refusal
+-- the Rust's default header
 abbrev pub zero_header : Header
 zero_header =
     record {
@@ -60,19 +59,22 @@ zero_header =
       mask = replicate 32 0;
     }
 
-abbrev pub done : ℕ → Header → Decoded
-done next h = record { answer = A.Done next; header = h }
+-- a header and the place after it, or the refusal
+unfoldable pub decoded_of : Outcome (Value header) → Answer (Header × ℕ)
+decoded_of (got v next) = Ok (header_of v, next)
+decoded_of (stop r) = Err r
 
-unfoldable pub decoded_of : Outcome (Value header) → Decoded
-decoded_of (got v next) = done next (header_of v)
-decoded_of (stop r) = record { answer = A.Refused r; header = zero_header }
+-- a header alone, or the refusal
+unfoldable pub alone_of : Outcome (Value header) → Answer Header
+alone_of (got v next) = Ok (header_of v)
+alone_of (stop r) = Err r
 
 -- ---- both round trips, proofs/RoundTrip.antt
 
 -- `decoded_back`: every header that is encoded decodes as itself
 abbrev pub DecodesBack : Type 0
-DecodesBack = (h : Header) → Fit header (fields_of h) → decoded_of (decode_header (write header (fields_of h))) ≡ done block_header_size h
+DecodesBack = (h : Header) → Fit header (fields_of h) → decoded_of (decode_header (write header (fields_of h))) ≡ Ok (h, block_header_size)
 
--- `encoded_back`: every 236 bytes that are decoded are encoded as themselves
+-- `encoded_back`: all 236 bytes are decoded, and encoded as themselves
 abbrev pub EncodesBack : Type 0
-EncodesBack = (s : List ℕ) → Bytes s → length s ≡ block_header_size → write header (fields_of (decoded_of (decode_header s)).header) ≡ s
+EncodesBack = (s : List ℕ) → Bytes s → length s ≡ block_header_size → (h : Header) × (decoded_of (decode_header s) ≡ Ok (h, block_header_size)) × (write header (fields_of h) ≡ s)

@@ -1,7 +1,7 @@
 //! A header for callers in C and Rust: four numbers, and its hashes side by side (specs/Hashes.antt).
 #![tactic(auto)]
 
-ghost use Rattle.std.specs.Prelude.{◌≡◌, length};
+ghost use Rattle.std.specs.Prelude.{◌≡◌};
 ghost use Rattle.hns_encoding.specs.Put.{splice};
 ghost use Rattle.hns_encoding.specs.Format.{value_at};
 ghost use Rattle.hns_header_consensus.specs.Layout.{header, decode_header, header_at};
@@ -9,32 +9,33 @@ ghost use Rattle.hns_header_consensus.specs.Answers.{header_of, decoded_of};
 ghost use Rattle.hns_header_hashes.specs.Hashes.{hashes_of, hashes_kept, header_from};
 
 use hns_encoder::Encoder;
-use hns_header_consensus::Header;
+use hns_header_consensus::{HEADER_SIZE, Header};
 
 // In the 236 bytes they stand in two runs, before version and bits and after, so two copies are enough.
-fn put_hashes(block: &[u8], out: &mut [u8])
-    requires { length block.now ≡ 236 }
+fn put_hashes(block: &[u8; HEADER_SIZE], out: &mut [u8])
     ensures { out.new ≡ splice out.old 0 (hashes_of (header_of (value_at header _ block.now 0))) }
 {
-    let e = Encoder::new().put_bytes(out, &block[12..196]);
-    e.put_bytes(out, &block[204..236]);
+    Encoder::new()
+        .put_bytes(out, &block[12..196])
+        .put_bytes(out, &block[204..236]);
 }
 
 // The hashes of a header to the front of `out`; no byte changes where it is refused.
+#[tactic(auto, using(crate::proofs::Hashes::kept, crate::proofs::Hashes::not_kept))]
 pub fn keep_hashes(input: &[u8], out: &mut [u8])
-    ensures { out.new ≡ hashes_kept (decoded_of (decode_header input.now)).answer (decoded_of (decode_header input.now)).header out.old }
+    ensures { out.new ≡ hashes_kept (decoded_of (decode_header input.now)) out.old }
 {
-    if input.len() == hns_header_consensus::HEADER_SIZE {
-        put_hashes(input, out);
+    if let Ok(block) = input.try_into() {
+        put_hashes(block, out);
     }
 }
 
+#[tactic(auto, using(crate::proofs::Hashes::not_kept_at))]
 pub fn keep_hashes_at(input: &[u8], position: usize, out: &mut [u8])
-    ensures { out.new ≡ hashes_kept (decoded_of (header_at input.now position)).answer (decoded_of (header_at input.now position)).header out.old }
+    ensures { out.new ≡ hashes_kept (decoded_of (header_at input.now position)) out.old }
 {
-    if hns_header_consensus::HEADER_SIZE <= hns_encoding::remaining(input, position) {
-        let end = position + hns_header_consensus::HEADER_SIZE;
-        put_hashes(&input[position..end], out);
+    if let Some(block) = hns_encoding::from_place(input, position).first_chunk() {
+        put_hashes(block, out);
     }
 }
 
@@ -45,14 +46,14 @@ pub fn header_from(nonce: u32, time: u64, hashes: &[u8], version: u32, bits: u32
     Header {
         nonce,
         time,
-        previous_block: hns_encoder::array32_at(hashes, 0),
-        tree_root: hns_encoder::array32_at(hashes, 32),
-        extra_nonce: hns_encoder::array24_at(hashes, 64),
-        reserved_root: hns_encoder::array32_at(hashes, 88),
-        witness_root: hns_encoder::array32_at(hashes, 120),
-        merkle_root: hns_encoder::array32_at(hashes, 152),
+        previous_block: hns_encoding::array_at(hashes, 0),
+        tree_root: hns_encoding::array_at(hashes, 32),
+        extra_nonce: hns_encoding::array_at(hashes, 64),
+        reserved_root: hns_encoding::array_at(hashes, 88),
+        witness_root: hns_encoding::array_at(hashes, 120),
+        merkle_root: hns_encoding::array_at(hashes, 152),
         version,
         bits,
-        mask: hns_encoder::array32_at(hashes, 184),
+        mask: hns_encoding::array_at(hashes, 184),
     }
 }

@@ -1,12 +1,16 @@
--- Mode, version and the end answer together what reading the whole payload answers.
-use Rattle.hns_encoding.specs.Bytes.{le_at}
-use Rattle.hns_encoding.specs.Format.{read}
-use Rattle.hns_decoder.proofs.Answers.{read_both}
+use mathlib.Core.Path.{◌≡◌, ◌∙◌}
+use Rattle.std.proofs.Common.{Err, rules}
+use Rattle.hns_decoder.proofs.Reading.{mode_refused, version_refused}
 use Rattle.hns_decoder.proofs.read_send_compact.Goals as goal
 
-pub returns : goal.returns
-unfolding read
-returns c =
-    read_both (le_at 1) (le_at 8) c.args.payload c.new-decoder.result c.read_u8-mode.new.self c.read_u64_le-version.new.self
-    c.read_u8-mode.result c.read_u64_le-version.result c.finish.result c.send_compact_from.result
-    c.new-decoder.ensures c.read_u8-mode.ensures c.read_u64_le-version.ensures c.finish.ensures c.send_compact_from.ensures
+pub returns-in_err-mode : goal.returns-in_err-mode
+returns-in_err-mode c =
+    let refused : c.from_residual.result ≡ Err c.in_err-mode.field-0.0 = search rules in
+    let new = c.new-decoder.ensures in
+    refused ∙ mode_refused new.0 new.1 c.read_u8.ensures c.in_err-mode.was
+
+pub returns-in_err-version : goal.returns-in_err-version
+returns-in_err-version c =
+    let refused : c.from_residual-in_err-version.result ≡ Err c.in_err-version.field-0.0 = search rules in
+    let new = c.new-decoder.ensures in
+    refused ∙ version_refused new.0 new.1 c.read_u8.ensures c.in_ok-mode.was c.read_u64_le.ensures c.in_err-version.was

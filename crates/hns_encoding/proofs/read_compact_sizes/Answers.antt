@@ -1,42 +1,31 @@
 -- `read_compact_sizes` meets its contract: what is read so far and what is left are the whole run.
-use native.Mathlib.Omega.{arith}
-use Rattle.hns_encoding.proofs.Runs.{read_start, read_length, full_test, full_here, refused_here, ended_answer, ended_values, one_more}
+use mathlib.Core.Path.{◌∙◌}
+use lib.Seq.{set-get_or}
+use Rattle.hns_encoding.proofs.Runs.{read_start, full_here, full_answer, refused_here, ended_answer, ended_values, one_more}
 use Rattle.hns_encoding.proofs.read_compact_sizes.Goals as goal
 
 pub loop-count-init : goal.loop-count-init
 loop-count-init c = read_start _ _ _
 
-pub shape_of-values-in-Refused : goal.shape_of-values-in-Refused
-shape_of-values-in-Refused c = read_length c.loop-count.invariant
-
-pub returns-in-Refused : goal.returns-in-Refused
-returns-in-Refused c =
+pub returns-in-Err-clause-value : goal.returns-in-Err-clause-value
+returns-in-Err-clause-value c =
     let t = c.loop-count.invariant in
-    let e = refused_here t (full_test t c.loop-count-test.true) c.read_compact_size.ensures c.in-Refused.is in
-    record { value = ended_answer t e; values_after = ended_values t e }
+    ended_answer t (refused_here t c.loop-count-test.true c.read_compact_size.ensures c.in-Err.is)
 
-pub offset_bounds-values-count : goal.offset_bounds-values-count
-offset_bounds-values-count c = omega (arith, read_length c.loop-count.invariant)
-
-pub bounds-values-count : goal.bounds-values-count
-bounds-values-count c = omega arith
-
-pub overflow_add-count : goal.overflow_add-count
-overflow_add-count c = omega arith
-
-pub loop-count-smaller : goal.loop-count-smaller
-loop-count-smaller c = omega (arith, read_length c.loop-count.invariant)
+pub returns-in-Err-clause-values_after : goal.returns-in-Err-clause-values_after
+returns-in-Err-clause-values_after c =
+    let t = c.loop-count.invariant in
+    set-get_or _ _ _ ∙ ended_values t (refused_here t c.loop-count-test.true c.read_compact_size.ensures c.in-Err.is)
 
 pub loop-count-preserved : goal.loop-count-preserved
 loop-count-preserved c =
     let t = c.loop-count.invariant in
-    one_more t (full_test t c.loop-count-test.true) c.read_compact_size.ensures c.in-Value.is
+    one_more t c.loop-count-test.true c.read_compact_size.ensures c.in-Ok.is
 
-pub shape_of-values : goal.shape_of-values
-shape_of-values c = read_length c.loop-count.invariant
+pub returns-clause-value : goal.returns-clause-value
+returns-clause-value c = full_answer c.loop-count.invariant c.loop-count-test.false
 
-pub returns : goal.returns
-returns c =
+pub returns-clause-values_after : goal.returns-clause-values_after
+returns-clause-values_after c =
     let t = c.loop-count.invariant in
-    let e = full_here t c.loop-count-test.false in
-    record { value = ended_answer t e; values_after = ended_values t e }
+    ended_values t (full_here t c.loop-count-test.false)

@@ -1,10 +1,5 @@
-use Prim.Native.Nat.{◌-◌}
-use lib.ListN.{length}
 use Rattle.hns_encoding.proofs.Runs.{ReadTo}
 use Rattle.hns_encoding.proofs.read_compact_sizes.Given as goal
 
 abbrev pub invariant-loop-count : goal.invariant-loop-count
 invariant-loop-count l = ReadTo l.input l.position l.initial.values l.values l.count l.next
-
-abbrev pub decreases-loop-count : goal.decreases-loop-count
-decreases-loop-count l = length l.initial.values - l.count

@@ -1,4 +1,5 @@
 use mathlib.Core.Path.{ap, ◌∙◌}
+use native.Mathlib.Omega.{arith}
 use Rattle.hns_encoding.specs.Put.{splice}
 use Rattle.hns_encoding.proofs.Puts.{then, from_start}
 use Rattle.hns_header_hashes.proofs.Hashes.{two_runs}
@@ -6,8 +7,5 @@ use Rattle.hns_header_hashes.proofs.put_hashes.Goals as goal
 
 pub returns : goal.returns
 returns c =
-    let second = c in
-    let first = second in
-    let a = c.args in
-    let both = then c.well_formed.1.0.0 (from_start first.new.ensures first.put_bytes-e.ensures) second.put_bytes.ensures in
-    both.bytes ∙ ap (splice a.out.now 0) (two_runs a.block.now)
+    let both = then (omega arith) (from_start c.new.ensures c.put_bytes.ensures) c.put_bytes-2.ensures in
+    both.bytes ∙ ap (splice c.args.out.now 0) (two_runs c.args.block.now)

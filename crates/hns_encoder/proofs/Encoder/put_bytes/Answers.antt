@@ -1,11 +1,6 @@
 use native.Mathlib.Omega.{arith}
-use Rattle.hns_encoding.proofs.Puts.{pasted}
+use Rattle.hns_encoding.proofs.Puts.{put_stored}
 use Rattle.hns_encoder.proofs.Encoder.put_bytes.Goals as goal
 
 pub returns : goal.returns
-returns c =
-    let a = c.args in
-    record {
-      next = c.advanced.ensures;
-      bytes = pasted a.out.now a.self.position a.value.now c.min.result (omega arith) c.set_bytes.ensures;
-    }
+returns c = put_stored c.min-at.ensures c.min-n.ensures (omega arith) c.copy_from_slice.ensures.after c.saturating_add.ensures

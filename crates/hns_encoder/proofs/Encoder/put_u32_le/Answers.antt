@@ -1,8 +1,5 @@
-use Rattle.hns_encoding.proofs.Numbers.{length_le_bytes}
-use Rattle.hns_encoding.proofs.Puts.{put_all}
+use Rattle.hns_encoding.proofs.Puts.{put_number}
 use Rattle.hns_encoder.proofs.Encoder.put_u32_le.Goals as goal
 
-pub returns-then-remaining-lt4 : goal.returns-then-remaining-lt4
-returns-then-remaining-lt4 c =
-    let made = put_all c.new.ensures (length_le_bytes 4 c.args.value) c.set_u32.ensures.put in
-    rw made at c.put_bytes.ensures
+pub returns : goal.returns
+returns c = put_number 4 c.args.value c.to_le_bytes.ensures c.put_array.ensures

@@ -1,6 +1,0 @@
-use Rattle.hns_encoding.proofs.Puts.{put_halves}
-use native.Mathlib.Omega.{arith}
-use Rattle.hns_encoder.proofs.Encoder.set_u64.Goals as goal
-
-pub returns : goal.returns
-returns c = record { put = put_halves 4 c.args.value (omega arith) c.set_u32-low.ensures.put c.set_u32.ensures.put; position_value = omega arith }
