@@ -8,11 +8,12 @@ use lib.ListN.{length}
 use lib.Dec.{eqb}
 use borrow.Author.Tests.{le-leb, lt-leb, eqb-true, eqb-false, eq-eqb, ne_eqb}
 use Rattle.hns_refusals.specs.declared.Refusal.{Refusal}
+use Rattle.std.specs.Prelude.{Err}
+use Rattle.hns_refusals.specs.Refusals.{number, payload_too_large, output_short}
 use Rattle.hns_refusals.specs.Limits.{header_size}
 use Rattle.hns_encoding.specs.Bytes.{Outcome, stop}
 use Rattle.hns_encoding.proofs.Outcomes.{choose_holds}
 use Rattle.hns_p2p_frame.specs.declared.NetworkMagic.{NetworkMagic}
-use Rattle.hns_p2p_frame.specs.declared.Encoded.TheVariants as E
 use Rattle.hns_p2p_frame.specs.Frame.{Frame, Front, whole, bad, payload_length, missing, exactly, decode_exact, Written}
 use Rattle.hns_p2p_frame.specs.Conditions as W
 use Rattle.hns_p2p_frame.specs.Conditions.{FrontIs, few, wrong, long, begun, full, ExactIs, header_bad, header_missing, payload_missing, bytes_after, one_frame, ExactExactly, WriterIs, RefusalsAre}
@@ -60,24 +61,21 @@ exact_exactly net xs a = (λ e. rw e at (exact_seen net xs), exact_is net xs)
 
 -- ---- which refusals
 
-front_refuses : {net : NetworkMagic} {xs : List ℕ} {r : Refusal} → FrontIs net xs (bad r) → (r.number ≡ 4) ⊎ (r.number ≡ 5)
+front_refuses : {net : NetworkMagic} {xs : List ℕ} {r : Refusal} → FrontIs net xs (bad r) → (number r ≡ 4) ⊎ (number r ≡ 5)
 front_refuses (wrong a b) = inl refl
 front_refuses (long a b c) = inr refl
 
-exact_refuses : {net : NetworkMagic} {xs : List ℕ} {r : Refusal} → ExactIs net xs (stop r) → (r.number ≡ 3) ⊎ (r.number ≡ 4) ⊎ (r.number ≡ 5) ⊎ (r.number ≡ 8)
+exact_refuses : {net : NetworkMagic} {xs : List ℕ} {r : Refusal} → ExactIs net xs (stop r) → (number r ≡ 3) ⊎ (number r ≡ 4) ⊎ (number r ≡ 5) ⊎ (number r ≡ 8)
 exact_refuses (header_bad (wrong a b)) = inr (inl refl)
 exact_refuses (header_bad (long a b c)) = inr (inr (inl refl))
 exact_refuses (header_missing a) = inr (inr (inr refl))
 exact_refuses (payload_missing a w) = inr (inr (inr refl))
 exact_refuses (bytes_after w some) = inl refl
 
-refused_one : {r q : Refusal} → E.Refused r ≡ E.Refused q → r ≡ q
-refused_one e = cc
-
-writer_refuses : {net : NetworkMagic} {f : Frame} {o : List ℕ} {w : Written} (r : Refusal) → WriterIs net f o w → w.answer ≡ E.Refused r → ((r.number ≡ 5) ⊎ (r.number ≡ 16)) × (w.output ≡ o)
-writer_refuses r (W.over a) e = (rw (← refused_one e) (inl refl), refl)
-writer_refuses r (W.short a b) e = (rw (← refused_one e) (inr refl), refl)
-writer_refuses r (W.fits a b) e = let z : ◌≡◌ {A = ℕ} 0 1 = cc in absurd (let v : ⊥ = omega arith in v)
+writer_refuses : {net : NetworkMagic} {f : Frame} {o : List ℕ} {w : Written} (r : Refusal) → WriterIs net f o w → w.answer ≡ Err r → ((number r ≡ 5) ⊎ (number r ≡ 16)) × (w.output ≡ o)
+writer_refuses {f = f} r (W.over a) e = let same : r ≡ payload_too_large (length f.payload) = cc in (rw same (inl refl), refl)
+writer_refuses {f = f} r (W.short a b) e = let same : r ≡ output_short (header_size + length f.payload) = cc in (rw same (inr refl), refl)
+writer_refuses r (W.fits a b) e = absurd (cc)
 
 pub refusals_are : (net : NetworkMagic) → RefusalsAre net
 refusals_are net =

@@ -1,10 +1,10 @@
 -- The frame at the front of a list: its cases, and what they say of the bytes. Assumes nothing.
-use Prim.Native.Nat.{ℕ, suc, ◌+◌, ◌≤◌, ◌<◌}
+use Prim.Native.Nat.{ℕ, ◌+◌, ◌≤◌, ◌<◌}
 use mathlib.Core.Path.{◌≡◌, refl, ap₂}
 use mathlib.Core.List.{List, [], ◌∷◌, ◌++◌, append_assoc}
 use mathlib.Core.Bool.{Bool, true, false, ◌&&◌}
 use native.Mathlib.Omega.{arith}
-use lib.ListN.{length, get_or, take, drop, length-drop, take-append-drop, drop_of_length-le}
+use lib.ListN.{length, take, drop, length-drop, take-append-drop}
 use lib.Seq.{drop-drop, drop-cons}
 use lib.Dec.{eqb}
 use borrow.Author.Tests.{le-leb, lt-leb, eqb-true, eq-eqb}
@@ -40,19 +40,10 @@ same_refl (x ∷ xs) = rw (eq-eqb x x refl) (same_refl xs)
 agree : (xs ys : List ℕ) → xs ≡ ys → same xs ys ≡ true
 agree xs ys e = rw e (same_refl ys)
 
--- an element at a time
-pub same_on : (xs ys : List ℕ) (i : ℕ) → i < length xs → i < length ys → same (drop i xs) (drop i ys) ≡ (eqb (get_or xs i 0) (get_or ys i 0) && same (drop (suc i) xs) (drop (suc i) ys))
-unfolding same
-same_on xs ys i h k = rw (drop-cons xs i 0 h, drop-cons ys i 0 k)
-
-pub same_end : (xs ys : List ℕ) (i : ℕ) → length xs ≤ i → length ys ≤ i → same (drop i xs) (drop i ys) ≡ true
-unfolding same
-same_end xs ys i h k = rw (drop_of_length-le xs {i = i} h, drop_of_length-le ys {i = i} k)
-
 -- ---- the cases of a front
 
 pub same_false : (xs ys : List ℕ) → same xs ys ≡ false → ¬ (xs ≡ ys)
-same_false xs ys e q = let z : ◌≡◌ {A = ℕ} 0 1 = cc (agree xs ys q, e) in omega arith
+same_false xs ys e q = cc (agree xs ys q, e)
 
 not_same : (xs ys : List ℕ) → ¬ (xs ≡ ys) → same xs ys ≡ false
 not_same xs ys n = go (same xs ys) refl

@@ -4,38 +4,39 @@ use native.Mathlib.Nat.{min-eq_left}
 use native.Mathlib.Omega.{arith}
 use mathlib.Core.Path.{◌≡◌, refl, sym, ap, ◌∙◌}
 use mathlib.Core.List.{List, ◌++◌, append_assoc}
-use lib.ListN.{length, take, drop, length-append, take-append-drop}
+use lib.ListN.{length, get_or, take, drop, length-append, take-append-drop}
 use lib.Seq.{take_at, drop_at, length-take-le}
+use Rattle.std.specs.Prelude.{Ok, Err}
 use Rattle.hns_refusals.specs.declared.Refusal.{Refusal}
 use Rattle.hns_refusals.specs.Limits.{max_stream}
-use Rattle.hns_refusals.specs.Refusals.{stream_too_large, output_short, store_short, held_over}
-use Rattle.hns_encoding.specs.Bytes.{Bytes, part}
+use Rattle.hns_refusals.specs.Refusals.{Answer, stream_too_large, output_short, store_short, held_over}
+use Rattle.hns_encoding.specs.Bytes.{part}
 use Rattle.hns_encoding.specs.Put.{splice}
+use Rattle.hns_encoding.proofs.Numbers.{part_length, bytes_take, bytes_known}
+use borrow.Rule.Slice.PartMut.{put_mid}
 use Rattle.hns_p2p_frame.specs.declared.NetworkMagic.{NetworkMagic}
-use Rattle.hns_p2p_frame.specs.declared.Intake.{Intake}
-use Rattle.hns_p2p_frame.specs.declared.Intake.TheVariants as A
 use Rattle.hns_p2p_frame.specs.declared.Pushed.{Pushed}
 use Rattle.hns_p2p_frame.specs.declared.Pushed.TheVariants.{Accepted, Refused}
 use Rattle.hns_p2p_frame.specs.declared.Walk.{Walk}
-use Rattle.hns_p2p_frame.specs.declared.Walk.TheVariants as W
 use Rattle.hns_p2p_frame.specs.Frame.{Frame, encodings}
 use Rattle.hns_p2p_frame.specs.Walk.{Walked, stopped, refused, walk}
 use Rattle.hns_p2p_frame.specs.Push.{Result, needed, turned_away, settled, passing, admitted, push}
 use Rattle.hns_p2p_frame.specs.Helpers.{walk_of}
 use Rattle.hns_p2p_frame.proofs.Walks.{WalkCut, walk_cut}
-use Rattle.hns_p2p_frame.proofs.Tests.{over, large, unstored, no_room, fits, passing_is, passing_away, passing_taken, passed_is}
-use Rattle.hns_p2p_frame.proofs.Slices.{take_held}
+use Rattle.hns_p2p_frame.proofs.Tests.{Passed, over, large, unstored, no_room, fits, passing_is, passing_away, passing_taken, passed_is}
+use Rattle.hns_p2p_frame.proofs.Slices.{take_held, part_put}
+use Rattle.hns_p2p_frame.proofs.Turns.{counted}
 
 -- what a function ensures that is to give this result
 abbrev pub Gives : Result → Pushed → List ℕ → List ℕ → Type 0
-Gives p r s o = (r ≡ p.answer) × ((s ≡ p.store) × (o ≡ p.output))
+Gives p r s o = record { value : r ≡ p.answer; store_after : s ≡ p.store; output_after : o ≡ p.output }
 
 gives : {p : Result} (q : Result) {r : Pushed} → p ≡ q → r ≡ q.answer → Gives p r q.store q.output
-gives q e a = (rw e a, (rw e, rw e))
+gives q e a = record { value = rw e a; store_after = rw e; output_after = rw e }
 
 -- ---- once the input is appended
 
-walked_refused : (net : NetworkMagic) {r : Refusal} (v : Walked) {w : Walk} → w ≡ walk_of net v → w ≡ W.Refused r → v ≡ refused r
+walked_refused : (net : NetworkMagic) {r : Refusal} (v : Walked) {w : Answer Walk} → w ≡ walk_of net v → w ≡ Err r → v ≡ refused r
 unfolding walk_of
 walked_refused net (stopped fs rest) q e = cc
 walked_refused net (refused p) q e = cc
@@ -49,20 +50,22 @@ record Cuts (net : NetworkMagic) (n b : ℕ) (xs : List ℕ) (v : Walked) : Type
   size : length (encodings net frames) ≡ b
   all : encodings net frames ++ rest ≡ xs
 
-walked_stopped : (net : NetworkMagic) {n b : ℕ} (v : Walked) (xs : List ℕ) {w : Walk} → WalkCut net xs v → w ≡ walk_of net v → w ≡ W.Stopped n b → Cuts net n b xs v
+walked_stopped : (net : NetworkMagic) {n b : ℕ} (v : Walked) (xs : List ℕ) {w : Answer Walk} → WalkCut net xs v → w ≡ walk_of net v → w ≡ Ok (counted n b) → Cuts net n b xs v
 unfolding walk_of
-walked_stopped net (stopped fs rest) xs c q e = record { frames = fs; rest = rest; is = refl; count = cc; size = cc; all = c.0 }
-walked_stopped net (refused r) xs c q e = let z : ◌≡◌ {A = ℕ} 0 1 = cc in absurd (let f : ⊥ = omega arith in f)
+walked_stopped net {n} {b} (stopped fs rest) xs c q e =
+    let same : counted (length fs) (length (encodings net fs)) ≡ counted n b = cc in
+    record { frames = fs; rest = rest; is = refl; count = ap (λ (w : Walk). w.frames) same; size = ap (λ (w : Walk). w.bytes) same; all = c.0 }
+walked_stopped net (refused r) xs c q e = absurd (cc)
 
 -- w is what the walk over the first t bytes of the store answered
-module _ (net : NetworkMagic) (s : List ℕ) (t : ℕ) (o : List ℕ) (fits : t ≤ length s) (bytes : Bytes (take t s)) {w : Walk} (walked : w ≡ walk_of net (walk net (take t s))) where
-  pub refuses : {r : Refusal} → w ≡ W.Refused r → Gives (settled net (walk net (take t s)) s t o) (Refused r t) s o
+module _ (net : NetworkMagic) (s : List ℕ) (t : ℕ) (o : List ℕ) (fits : t ≤ length s) (known : (i : ℕ) → get_or s i 0 < 256) {w : Answer Walk} (walked : w ≡ walk_of net (walk net (take t s))) where
+  pub refuses : {r : Refusal} → w ≡ Err r → Gives (settled net (walk net (take t s)) s t o) (Refused r t) s o
   unfolding settled
   refuses {r} e = gives (settled net (refused r) s t o) (rw (walked_refused net (walk net (take t s)) walked e)) refl
 
-  module _ {n b : ℕ} (e : w ≡ W.Stopped n b) where
+  module _ {n b : ℕ} (e : w ≡ Ok (counted n b)) where
     cuts : Cuts net n b (take t s) (walk net (take t s))
-    cuts = walked_stopped net (walk net (take t s)) (take t s) (walk_cut net (take t s) bytes) walked e
+    cuts = walked_stopped net (walk net (take t s)) (take t s) (walk_cut net (take t s) (bytes_take t (bytes_known s known))) walked e
 
     sizes : (c : Cuts net n b (take t s) (walk net (take t s))) → b + length c.rest ≡ t
     sizes c = omega (arith, c.size, sym (length-append (encodings net c.frames) c.rest) ∙ ap length c.all ∙ length-take-le t s fits)
@@ -89,41 +92,51 @@ module _ (net : NetworkMagic) (s : List ℕ) (t : ℕ) (o : List ℕ) (fits : t 
 -- ---- the tests of a push
 
 module _ (s : List ℕ) (h : ℕ) (x o : List ℕ) where
-  -- what `take_in` owes at each return
-  abbrev TakesIn : Intake → Type 0
-  TakesIn a = a ≡ passing s h x o A.TurnedAway (A.Taken (h + length x))
-
-  pub takes_in_18 : length s < h → {r : Refusal} → r ≡ held_over h → TakesIn (A.TurnedAway r)
-  takes_in_18 a e = rw e (sym (passing_is (over a)))
+  pub takes_in_18 : length s < h → Err (held_over h) ≡ passing s h x o Err (Ok (h + length x))
+  takes_in_18 a = sym (passing_is (over a))
 
   module _ (a : h ≤ length s) (sum : h + length x < 2 ^ 64) where
     -- the sum is below 2^64
     need : needed h x ≡ h + length x
     need = min-eq_left (omega arith)
 
-    pub takes_in_6 : max_stream < h + length x → {r : Refusal} → r ≡ stream_too_large (h + length x) → TakesIn (A.TurnedAway r)
-    takes_in_6 b e = rw (e, ← need) (sym (passing_is (large a b)))
+    pub takes_in_6 : max_stream < h + length x → Err (stream_too_large (h + length x)) ≡ passing s h x o Err (Ok (h + length x))
+    takes_in_6 b = rw (← need) (sym (passing_is (large a b)))
 
     module _ (b : h + length x ≤ max_stream) where
-      pub takes_in_17 : length s < h + length x → {r : Refusal} → r ≡ store_short (h + length x) → TakesIn (A.TurnedAway r)
-      takes_in_17 c e = rw (e, ← need) (sym (passing_is (unstored a b c)))
+      pub takes_in_17 : length s < h + length x → Err (store_short (h + length x)) ≡ passing s h x o Err (Ok (h + length x))
+      takes_in_17 c = rw (← need) (sym (passing_is (unstored a b c)))
 
       module _ (c : h + length x ≤ length s) where
-        pub takes_in_16 : length o < h + length x → {r : Refusal} → r ≡ output_short (h + length x) → TakesIn (A.TurnedAway r)
-        takes_in_16 d e = rw (e, ← need) (sym (passing_is (no_room a b c d)))
+        pub takes_in_16 : length o < h + length x → Err (output_short (h + length x)) ≡ passing s h x o Err (Ok (h + length x))
+        takes_in_16 d = rw (← need) (sym (passing_is (no_room a b c d)))
 
-        pub takes_in_all : h + length x ≤ length o → TakesIn (A.Taken (h + length x))
+        pub takes_in_all : h + length x ≤ length o → Ok (h + length x) ≡ passing s h x o Err (Ok (h + length x))
         takes_in_all d = sym (passing_is (fits a b c d))
 
 -- ---- a push
 
-module _ (net : NetworkMagic) (s : List ℕ) (h : ℕ) (x o : List ℕ) {a : Intake} (q : a ≡ passing s h x o A.TurnedAway (A.Taken (h + length x))) where
-  pub turned : {r : Refusal} → a ≡ A.TurnedAway r → Gives (push net s h x o) (Refused r h) s o
+-- the input's place in the store
+module _ (s : List ℕ) (h : ℕ) (x o : List ℕ) {a : Answer ℕ} (q : a ≡ passing s h x o Err (Ok (h + length x))) {t : ℕ} (e : a ≡ Ok t) where
+  passed : (t ≡ h + length x) × Passed s h x o
+  passed = passing_taken s h x o q e
+
+  pub taken_within : (h ≤ t) × (t ≤ length s) × (t ≤ length o)
+  taken_within = let p = passed in (omega (arith, p.0), omega (arith, p.0, p.1.store), omega (arith, p.0, p.1.output))
+
+  pub taken_long : length (part s h (t - h)) ≡ length x
+  taken_long = let p = passed in part_length s h (t - h) (omega (arith, p.0, p.1.store)) ∙ omega (arith, p.0)
+
+  pub taken_put : {y : List ℕ} → y ≡ x → put_mid h (t - h) s y ≡ splice s h x
+  taken_put g = let p = passed in part_put s x h t p.0 (omega (arith, p.0, p.1.store)) g
+
+module _ (net : NetworkMagic) (s : List ℕ) (h : ℕ) (x o : List ℕ) {a : Answer ℕ} (q : a ≡ passing s h x o Err (Ok (h + length x))) where
+  pub turned : {r : Refusal} → a ≡ Err r → Gives (push net s h x o) (Refused r h) s o
   unfolding push admitted
   turned {r} e = gives (turned_away r s h o) (passing_away s h x o q e (λ (v : Refusal). turned_away v s h o) (settled net (walk net (take h s ++ x)) (splice s h x) (h + length x) o)) refl
 
   -- s₁ is the store with the input in it
-  pub settles : {t : ℕ} → a ≡ A.Taken t → {s₁ : List ℕ} → s₁ ≡ splice s h x → {r : Pushed} {s' o' : List ℕ}
+  pub settles : {t : ℕ} → a ≡ Ok t → {s₁ : List ℕ} → s₁ ≡ splice s h x → {r : Pushed} {s' o' : List ℕ}
       → Gives (settled net (walk net (take t s₁)) s₁ t o) r s' o' → Gives (push net s h x o) r s' o'
   unfolding push admitted
   settles e i g =

@@ -1,13 +1,17 @@
 -- Laws of lists that the copies of a push use. Assumes nothing.
-use Prim.Native.Nat.{ℕ, zero, suc, ◌+◌, ◌≤◌, ◌<◌}
-use native.Mathlib.Nat.{le_of_suc-le-suc, not-suc-le-zero, zero-add}
+use Prim.Native.Nat.{ℕ, ◌+◌, ◌-◌, ◌≤◌, zero-le}
+use native.Mathlib.Nat.{zero-add}
 use native.Mathlib.Omega.{arith}
-use mathlib.Core.Path.{◌≡◌, refl, ap, ◌∙◌}
-use mathlib.Core.List.{List, [], ◌∷◌, ◌++◌, append_assoc}
-use lib.ListN.{length, get_or, take, drop, set, length-append, length-drop, take-append-drop}
-use lib.Seq.{get_or-append-add, get_or-drop, length-take-le, take_at, take-append_seam}
+use mathlib.Core.Path.{◌≡◌, sym, ◌∙◌}
+use mathlib.Core.List.{List, ◌++◌, append_assoc}
+use lib.ListN.{length, take, drop, length-append, take-append-drop}
+use lib.Seq.{drop-drop, length-take-le, take_at, take-append_seam}
+use borrow.Rule.Slice.PartMut.{put_mid}
+use Rattle.std.specs.List.{copy_within}
+use Rattle.hns_encoding.specs.Bytes.{part}
 use Rattle.hns_encoding.specs.Put.{splice}
 use Rattle.hns_encoding.proofs.Puts.{splice_fits}
+use Rattle.hns_encoding.proofs.Numbers.{part_length}
 
 -- a list with its front replaced
 pub splice_front : (s x : List ℕ) → length x ≤ length s → splice s 0 x ≡ x ++ drop (length x) s
@@ -30,21 +34,27 @@ length_held s h x l = rw (length-append, length-take-le h s l)
 pub take_held : (s : List ℕ) (h : ℕ) (x : List ℕ) → h + length x ≤ length s → take (h + length x) (splice s h x) ≡ take h s ++ x
 take_held s h x l = rw (splice_held s h x l) (take_at (take h s ++ x) (drop (h + length x) s) (h + length x) (length_held s h x (omega arith)))
 
--- one more byte copied
-copied : (src dst : List ℕ) (i : ℕ) → i < length src → i < length dst → set (take i src ++ drop i dst) i (get_or src i 0) ≡ take (suc i) src ++ drop (suc i) dst
-copied [] dst i h k = absurd (not-suc-le-zero h)
-copied (x ∷ xs) [] i h k = absurd (not-suc-le-zero k)
-copied (x ∷ xs) (y ∷ ys) zero h k = refl
-copied (x ∷ xs) (y ∷ ys) (suc i) h k = ap (λ (l : List ℕ). x ∷ l) (copied xs ys i (le_of_suc-le-suc h) (le_of_suc-le-suc k))
+-- the bytes from h to t replaced by as many
+pub part_put : (s x : List ℕ) (h t : ℕ) {y : List ℕ} → t ≡ h + length x → t ≤ length s → y ≡ x → put_mid h (t - h) s y ≡ splice s h x
+part_put s x h t e f g =
+    let n : t - h ≡ length x = omega arith in
+    rw (g, n, drop-drop) (sym (splice_fits s h x (omega arith)))
 
--- one more byte moved down: what is read has not been written yet
-pub moved : (s : List ℕ) (from i : ℕ) → from + i < length s
-    → set (take i (drop from s) ++ drop i s) i (get_or (take i (drop from s) ++ drop i s) (from + i) 0) ≡ take (suc i) (drop from s) ++ drop (suc i) s
-moved s from i h =
-    let l : i < length (drop from s) = simp length-drop (omega arith) in
-    let n : length (take i (drop from s)) ≡ i = length-take-le i (drop from s) (omega arith) in
-    let k : from + i ≡ length (take i (drop from s)) + from = omega arith in
-    let j : i + from ≡ from + i = omega arith in
-    let v : get_or (take i (drop from s) ++ drop i s) (from + i) 0 ≡ get_or (drop from s) i 0 =
-    rw (k, get_or-append-add (take i (drop from s)) (drop i s) from 0, get_or-drop i s from 0, get_or-drop from s i 0, j) in
-    rw v (copied (drop from s) s i l (omega arith))
+-- bytes moved to the front
+pub moved_down : (s : List ℕ) (from n : ℕ) → from + n ≤ length s → copy_within s from (from + n) 0 ≡ splice s 0 (part s from n)
+moved_down s from n h =
+    let k : length (part s from n) ≡ n = part_length s from n (omega arith) in
+    let m : from + n - from ≡ n = omega arith in
+    let z : 0 + n ≡ n = omega arith in
+    rw (m, z) (sym (splice_front s (part s from n) (omega arith) ∙ rw k))
+
+-- the first bytes replaced by as many
+pub put_front : (o s : List ℕ) (n : ℕ) {x : List ℕ} → n ≤ length s → n ≤ length o → x ≡ take n s → x ++ drop n o ≡ splice o 0 (take n s)
+put_front o s n h k e = rw e (sym (splice_front o (take n s) (rw (length-take-le n s h) k) ∙ rw (length-take-le n s h)))
+
+-- where there are none, each slice gets its own first bytes again
+pub none_moved : (s : List ℕ) (from n : ℕ) → from ≤ 0 → from + n ≤ length s → s ≡ splice s 0 (part s from n)
+none_moved s from n z h = let none : from ≡ 0 = omega arith in rw none (sym (splice_own n s (omega arith)))
+
+pub none_put : (o s : List ℕ) (n : ℕ) → n ≤ 0 → o ≡ splice o 0 (take n s)
+none_put o s n z = let none : n ≡ 0 = omega arith in rw none (sym (splice_own 0 o zero-le))

@@ -2,16 +2,14 @@
 use Prim.Native.Nat.{ℕ, ◌+◌, ◌≤◌, ◌<◌}
 use mathlib.Core.Path.{◌≡◌, sym, ap, ◌∙◌}
 use mathlib.Core.List.{List, ◌++◌}
-use native.Mathlib.Omega.{arith}
 use lib.ListN.{length, take}
 use borrow.Author.Tests.{le-leb, lt-leb}
+use Rattle.std.specs.Prelude.{Ok, Err}
 use Rattle.hns_refusals.specs.declared.Refusal.{Refusal}
 use Rattle.hns_refusals.specs.Limits.{max_stream}
-use Rattle.hns_refusals.specs.Refusals.{stream_too_large, output_short, store_short, held_over}
+use Rattle.hns_refusals.specs.Refusals.{Answer, stream_too_large, output_short, store_short, held_over}
 use Rattle.hns_encoding.specs.Put.{splice}
 use Rattle.hns_p2p_frame.specs.declared.NetworkMagic.{NetworkMagic}
-use Rattle.hns_p2p_frame.specs.declared.Intake.{Intake}
-use Rattle.hns_p2p_frame.specs.declared.Intake.TheVariants as A
 use Rattle.hns_p2p_frame.specs.Walk.{walk}
 use Rattle.hns_p2p_frame.specs.Push.{Result, needed, turned_away, settled, passing, admitted, push}
 use Rattle.hns_encoding.proofs.Outcomes.{choose_leb}
@@ -54,27 +52,27 @@ pub record Passed (s : List ℕ) (h : ℕ) (x o : List ℕ) : Type 0 where
   pub store : h + length x ≤ length s
   pub output : h + length x ≤ length o
 
-module _ (s : List ℕ) (h : ℕ) (x o : List ℕ) {a : Intake} (q : a ≡ passing s h x o A.TurnedAway (A.Taken (h + length x))) where
-  pub passing_away : {r : Refusal} → a ≡ A.TurnedAway r → {B : Type 0} (away : Refusal → B) (p : B) → passing s h x o away p ≡ away r
-  passing_away {r} e {B} away p = go (passes s h x o A.TurnedAway (A.Taken (h + length x))) (sym q ∙ e)
+module _ (s : List ℕ) (h : ℕ) (x o : List ℕ) {a : Answer ℕ} (q : a ≡ passing s h x o Err (Ok (h + length x))) where
+  pub passing_away : {r : Refusal} → a ≡ Err r → {B : Type 0} (away : Refusal → B) (p : B) → passing s h x o away p ≡ away r
+  passing_away {r} e {B} away p = go (passes s h x o Err (Ok (h + length x))) (sym q ∙ e)
     where
-      one : {v : Refusal} → A.TurnedAway v ≡ A.TurnedAway r → away v ≡ away r
+      one : {v : Refusal} → ◌≡◌ {A = Answer ℕ} (Err v) (Err r) → away v ≡ away r
       one i = ap away (cc i)
 
-      go : {b : Intake} → Tested s h x o A.TurnedAway (A.Taken (h + length x)) b → b ≡ A.TurnedAway r → passing s h x o away p ≡ away r
+      go : {b : Answer ℕ} → Tested s h x o Err (Ok (h + length x)) b → b ≡ Err r → passing s h x o away p ≡ away r
       go (over c) i = passing_is (over c) ∙ one i
       go (large c d) i = passing_is (large c d) ∙ one i
       go (unstored c d f) i = passing_is (unstored c d f) ∙ one i
       go (no_room c d f g) i = passing_is (no_room c d f g) ∙ one i
-      go (fits c d f g) i = let z : ◌≡◌ {A = ℕ} 0 1 = cc i in absurd (let k : ⊥ = omega arith in k)
+      go (fits c d f g) i = absurd (cc i)
 
-  pub passing_taken : {t : ℕ} → a ≡ A.Taken t → (t ≡ h + length x) × Passed s h x o
-  passing_taken {t} e = go (passes s h x o A.TurnedAway (A.Taken (h + length x))) (sym q ∙ e)
+  pub passing_taken : {t : ℕ} → a ≡ Ok t → (t ≡ h + length x) × Passed s h x o
+  passing_taken {t} e = go (passes s h x o Err (Ok (h + length x))) (sym q ∙ e)
     where
-      never : {v : Refusal} {B : Type 0} → A.TurnedAway v ≡ A.Taken t → B
-      never i = let z : ◌≡◌ {A = ℕ} 0 1 = cc i in absurd (let f : ⊥ = omega arith in f)
+      never : {v : Refusal} {B : Type 0} → ◌≡◌ {A = Answer ℕ} (Err v) (Ok t) → B
+      never i = absurd (cc i)
 
-      go : {b : Intake} → Tested s h x o A.TurnedAway (A.Taken (h + length x)) b → b ≡ A.Taken t → (t ≡ h + length x) × Passed s h x o
+      go : {b : Answer ℕ} → Tested s h x o Err (Ok (h + length x)) b → b ≡ Ok t → (t ≡ h + length x) × Passed s h x o
       go (over c) i = never i
       go (large c d) i = never i
       go (unstored c d f) i = never i

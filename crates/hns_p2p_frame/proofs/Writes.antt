@@ -1,11 +1,14 @@
 -- The cases of the frame writer; a frame's header and its payload, put one after the other. Assumes nothing.
-use Prim.Native.Nat.{ℕ, ◌+◌}
+use Prim.Native.Nat.{ℕ, ◌+◌, ◌≤◌, ◌<◌}
 use mathlib.Core.Path.{◌≡◌}
 use mathlib.Core.List.{List, ◌∷◌, append_assoc}
 use lib.ListN.{length}
 use borrow.Author.Tests.{le-leb, lt-leb}
+use Rattle.std.specs.Prelude.{Ok, Err}
+use Rattle.hns_refusals.specs.Refusals.{payload_too_large, output_short}
 use Rattle.hns_refusals.specs.Limits.{header_size, max_payload}
 use Rattle.hns_encoding.specs.Bytes.{le_bytes}
+use Rattle.hns_encoding.specs.Put.{splice}
 use Rattle.hns_encoding.proofs.Outcomes.{choose_leb}
 use Rattle.hns_encoding.proofs.Puts.{then}
 use Rattle.hns_p2p_frame.specs.declared.NetworkMagic.{NetworkMagic}
@@ -28,6 +31,16 @@ unfolding write_frame
 writer_is {f = f} (W.over a) = rw (lt-leb (length f.payload) max_payload a)
 writer_is {net} {f} {o} (W.short a b) = rw (length_encoding net f, le-leb (length f.payload) max_payload a, lt-leb (header_size + length f.payload) (length o) b)
 writer_is {net} {f} {o} (W.fits a b) = rw (length_encoding net f, le-leb (length f.payload) max_payload a, le-leb (header_size + length f.payload) (length o) b)
+
+module _ (net : NetworkMagic) (f : Frame) (o : List ℕ) where
+  pub over_is : max_payload < length f.payload → write_frame net f o ≡ record { answer = Err (payload_too_large (length f.payload)); output = o }
+  over_is a = writer_is (W.over a)
+
+  pub short_is : length f.payload ≤ max_payload → length o < header_size + length f.payload → write_frame net f o ≡ record { answer = Err (output_short (header_size + length f.payload)); output = o }
+  short_is a b = writer_is (W.short a b)
+
+  pub fits_is : length f.payload ≤ max_payload → header_size + length f.payload ≤ length o → write_frame net f o ≡ record { answer = Ok (header_size + length f.payload); output = splice o 0 (encoding net f) }
+  fits_is a b = writer_is (W.fits a b)
 
 pub writer_exactly : WriterExactly
 writer_exactly net f o w = (λ e. rw e at (writes net f o), writer_is)

@@ -1,12 +1,11 @@
 -- Document 01's table as conditions, both ways: of the frame at the front, the exact frame and the frame writer, each answer with its values is given exactly when its case holds.
-use Rattle.std.specs.Prelude.{ℕ, ◌+◌, ◌-◌, ◌≤◌, ◌<◌, ◌≡◌, List, ◌⊎◌, length, take, drop}
+use Rattle.std.specs.Prelude.{ℕ, ◌+◌, ◌-◌, ◌≤◌, ◌<◌, ◌≡◌, List, ◌⊎◌, length, take, drop, Ok, Err}
 use Rattle.hns_refusals.specs.declared.Refusal.{Refusal}
 use Rattle.hns_refusals.specs.Limits.{header_size, max_payload}
-use Rattle.hns_refusals.specs.Refusals.{trailing_bytes, magic_mismatch, payload_too_large, incomplete_frame, output_short}
+use Rattle.hns_refusals.specs.Refusals.{number, trailing_bytes, magic_mismatch, payload_too_large, incomplete_frame, output_short}
 use Rattle.hns_encoding.specs.Bytes.{le, Outcome, got, stop}
 use Rattle.hns_encoding.specs.Put.{splice}
 use Rattle.hns_p2p_frame.specs.declared.NetworkMagic.{NetworkMagic}
-use Rattle.hns_p2p_frame.specs.declared.Encoded.TheVariants as E
 use Rattle.hns_p2p_frame.specs.Frame.{magic, Frame, encoding, Front, not_yet, whole, bad, payload_length, frame_of, front, decode_exact, Written, write_frame}
 
 -- each follows from the other
@@ -53,10 +52,10 @@ ExactExactly = (net : NetworkMagic) (xs : List ℕ) (a : Outcome Frame) → (dec
 
 pub data WriterIs (net : NetworkMagic) (f : Frame) (o : List ℕ) : Written → Type 0 where
   -- 5: a payload over its limit; nothing is written
-  over : max_payload < length f.payload → WriterIs net f o (record { answer = E.Refused (payload_too_large (length f.payload)); output = o })
+  over : max_payload < length f.payload → WriterIs net f o (record { answer = Err (payload_too_large (length f.payload)); output = o })
   -- 16: an output that is too short, a what is needed; nothing is written
-  short : length f.payload ≤ max_payload → length o < header_size + length f.payload → WriterIs net f o (record { answer = E.Refused (output_short (header_size + length f.payload)); output = o })
-  fits : length f.payload ≤ max_payload → header_size + length f.payload ≤ length o → WriterIs net f o (record { answer = E.Written (header_size + length f.payload); output = splice o 0 (encoding net f) })
+  short : length f.payload ≤ max_payload → length o < header_size + length f.payload → WriterIs net f o (record { answer = Err (output_short (header_size + length f.payload)); output = o })
+  fits : length f.payload ≤ max_payload → header_size + length f.payload ≤ length o → WriterIs net f o (record { answer = Ok (header_size + length f.payload); output = splice o 0 (encoding net f) })
 
 -- `writer_exactly` of proofs/Writes.antt
 abbrev pub WriterExactly : Type 0
@@ -65,6 +64,6 @@ WriterExactly = (net : NetworkMagic) (f : Frame) (o : List ℕ) (w : Written) �
 -- ---- demand 1: which refusals each can give, and that a refused writer writes nothing; `refusals_are` of proofs/Exacts.antt
 
 pub record RefusalsAre (net : NetworkMagic) : Type 0 where
-  pub of_front : (xs : List ℕ) (r : Refusal) → front net xs ≡ bad r → (r.number ≡ 4) ⊎ (r.number ≡ 5)
-  pub of_exact : (xs : List ℕ) (r : Refusal) → decode_exact net xs ≡ stop r → (r.number ≡ 3) ⊎ (r.number ≡ 4) ⊎ (r.number ≡ 5) ⊎ (r.number ≡ 8)
-  pub of_writer : (f : Frame) (o : List ℕ) (r : Refusal) → (write_frame net f o).answer ≡ E.Refused r → ((r.number ≡ 5) ⊎ (r.number ≡ 16)) × ((write_frame net f o).output ≡ o)
+  pub of_front : (xs : List ℕ) (r : Refusal) → front net xs ≡ bad r → (number r ≡ 4) ⊎ (number r ≡ 5)
+  pub of_exact : (xs : List ℕ) (r : Refusal) → decode_exact net xs ≡ stop r → (number r ≡ 3) ⊎ (number r ≡ 4) ⊎ (number r ≡ 5) ⊎ (number r ≡ 8)
+  pub of_writer : (f : Frame) (o : List ℕ) (r : Refusal) → (write_frame net f o).answer ≡ Err r → ((number r ≡ 5) ⊎ (number r ≡ 16)) × ((write_frame net f o).output ≡ o)

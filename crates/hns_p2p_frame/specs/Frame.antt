@@ -1,14 +1,12 @@
 -- Document 01, 'The frame': the encoding of a frame, the frame at the front of a list of bytes, the exact frame, and the writer.
-use Rattle.std.specs.Prelude.{ℕ, ◌+◌, ◌-◌, ◌^◌, ◌≤◌, ◌<◌, List, [], ◌∷◌, ◌++◌, Bool, true, false, ◌&&◌, length, get_or, take, drop, leb, eqb}
+use Rattle.std.specs.Prelude.{ℕ, ◌+◌, ◌-◌, ◌^◌, ◌≤◌, ◌<◌, List, [], ◌∷◌, ◌++◌, Bool, true, false, ◌&&◌, length, get_or, take, drop, leb, eqb, Ok, Err}
 use Rattle.hns_refusals.specs.declared.Refusal.{Refusal}
 use Rattle.hns_refusals.specs.Limits.{header_size, max_payload}
-use Rattle.hns_refusals.specs.Refusals.{trailing_bytes, magic_mismatch, payload_too_large, incomplete_frame, output_short}
+use Rattle.hns_refusals.specs.Refusals.{Answer, trailing_bytes, magic_mismatch, payload_too_large, incomplete_frame, output_short}
 use Rattle.hns_encoding.specs.Bytes.{le, le_bytes, Bytes, choose, part, Outcome, got, stop}
 use Rattle.hns_encoding.specs.Put.{splice, Put}
 use Rattle.hns_p2p_frame.specs.declared.NetworkMagic.{NetworkMagic}
 use Rattle.hns_p2p_frame.specs.declared.NetworkMagic.TheVariants.{Mainnet, Testnet, Regtest, Simnet}
-use Rattle.hns_p2p_frame.specs.declared.Encoded.{Encoded}
-use Rattle.hns_p2p_frame.specs.declared.Encoded.TheVariants as E
 
 unfoldable pub magic : NetworkMagic → List ℕ
 magic Mainnet = 0xd3 ∷ 0xf2 ∷ 0x6e ∷ 0x5b ∷ []
@@ -94,7 +92,7 @@ decode_exact net xs = exactly xs (front net xs)
 
 -- what the frame writer answers, and what the output holds after it
 pub record Written : Type 0 where
-  pub answer : Encoded
+  pub answer : Answer ℕ
   pub output : List ℕ
 
 -- 5 before 16; what is written stands at the output's front, and no other byte changes
@@ -102,9 +100,9 @@ unfoldable pub write_frame : NetworkMagic → Frame → List ℕ → Written
 write_frame net f o =
     choose (leb (length f.payload) max_payload)
     (choose (leb (length (encoding net f)) (length o))
-    (record { answer = E.Written (length (encoding net f)); output = splice o 0 (encoding net f) })
-    (record { answer = E.Refused (output_short (length (encoding net f))); output = o }))
-    (record { answer = E.Refused (payload_too_large (length f.payload)); output = o })
+    (record { answer = Ok (length (encoding net f)); output = splice o 0 (encoding net f) })
+    (record { answer = Err (output_short (length (encoding net f))); output = o }))
+    (record { answer = Err (payload_too_large (length f.payload)); output = o })
 
 -- ---- a payload behind a frame's header
 

@@ -1,10 +1,10 @@
 //! Frames of a peer stream: reading one at the front of a slice, writing one, and the push that cuts a stream into frames.
 #![tactic(auto)]
 
-ghost use Rattle.std.specs.Prelude.{◌≡◌, ◌++◌, ◌∷◌, ◌+◌, ◌-◌, ◌≤◌, length, take};
+ghost use Rattle.std.specs.Prelude.{◌≡◌, ◌++◌, ◌∷◌, ◌+◌, ◌-◌, ◌≤◌, length, take, Ok, Err};
 ghost use Rattle.hns_encoding.specs.Bytes.{le, le_bytes, part};
 ghost use Rattle.hns_encoding.specs.Put.{splice, Put};
-ghost use Rattle.hns_p2p_frame.specs.Frame.{magic, same, missing, front, payload_of, decode_exact, write_frame};
+ghost use Rattle.hns_p2p_frame.specs.Frame.{magic, missing, front, payload_of, decode_exact, write_frame};
 ghost use Rattle.hns_p2p_frame.specs.Walk.{walk};
 ghost use Rattle.hns_p2p_frame.specs.Push as Push;
 ghost use Rattle.hns_p2p_frame.specs.Answers.{prefix_of, exact_of};
@@ -13,7 +13,7 @@ ghost use Rattle.hns_p2p_frame.specs.Helpers.{walk_of};
 use hns_encoder::Encoder;
 use hns_refusals::Refusal;
 
-#[derive(Clone, Copy)]
+#[derive(Clone, Copy, Debug, PartialEq, Eq)]
 pub enum NetworkMagic {
     Mainnet,
     Testnet,
@@ -36,17 +36,8 @@ impl NetworkMagic {
 
     pub const MAX_STREAM_BUFFER_SIZE: usize = 16_000_018;
 
-    pub fn as_u32(self) -> u32
-        ensures { result ≡ le (magic self) }
-    {
-        match self {
-            NetworkMagic::Mainnet => NetworkMagic::MAINNET,
-            NetworkMagic::Testnet => NetworkMagic::TESTNET,
-            NetworkMagic::Regtest => NetworkMagic::REGTEST,
-            NetworkMagic::Simnet => NetworkMagic::SIMNET,
-        }
-    }
-
+    // Stays a method and a table of its own: document 01 names the form, four byte strings that frames are compared with.
+    #[tactic(auto, unfolding(crate::specs::Frame::magic))]
     pub fn as_bytes(self) -> [u8; 4]
         ensures { result ≡ magic self }
     {
@@ -59,34 +50,32 @@ impl NetworkMagic {
     }
 }
 
-// What a slice begins with. A frame is answered by its type, its payload's length, and how many bytes it took.
-#[derive(Clone, Copy)]
-pub enum Prefix {
-    NotYet,
-    Frame {
-        packet_type: u8,
-        length: usize,
-        taken: usize,
-    },
-    Refused(Refusal),
+// The word that the four bytes are, lowest first.
+impl From<NetworkMagic> for u32 {
+    ghost from_gives = { λ network word. word ≡ le (magic network) };
+
+    #[tactic(auto, unfolding(crate::specs::Frame::magic, hns_encoding::specs::Bytes::le))]
+    fn from(network: NetworkMagic) -> u32 {
+        match network {
+            NetworkMagic::Mainnet => NetworkMagic::MAINNET,
+            NetworkMagic::Testnet => NetworkMagic::TESTNET,
+            NetworkMagic::Regtest => NetworkMagic::REGTEST,
+            NetworkMagic::Simnet => NetworkMagic::SIMNET,
+        }
+    }
 }
 
-// A slice that is one frame.
-#[derive(Clone, Copy)]
-pub enum Exact {
-    Frame { packet_type: u8, length: usize },
-    Refused(Refusal),
-}
-
-// The length of an encoding that was written, or the refusal.
-#[derive(Clone, Copy)]
-pub enum Encoded {
-    Written(usize),
-    Refused(Refusal),
+// The frame that a slice begins with, by its type, its payload's length, and how many bytes it took: numbers, which a row for C takes.
+#[derive(Clone, Copy, Debug, PartialEq, Eq)]
+pub struct Prefix {
+    pub packet_type: u8,
+    pub length: usize,
+    pub taken: usize,
 }
 
 // The number of frames that a push delivered and the length of their encodings, or its refusal; and how many bytes are held.
-#[derive(Clone, Copy)]
+// Stays an enum: a refused push answers the held count too, which a Result would not have.
+#[derive(Clone, Copy, Debug, PartialEq, Eq)]
 pub enum Pushed {
     Accepted {
         frames: usize,
@@ -100,7 +89,8 @@ pub enum Pushed {
 }
 
 // The same with the frames and bytes delivered beside a refusal too: the answer of a push with a tally.
-#[derive(Clone, Copy)]
+// Stays an enum: a refusal that comes with what was delivered is no Result.
+#[derive(Clone, Copy, Debug, PartialEq, Eq)]
 pub enum Delivered {
     Accepted {
         frames: usize,
@@ -115,79 +105,54 @@ pub enum Delivered {
     },
 }
 
-// Whether a push is turned away before the append, or how many bytes held and input are together.
-#[derive(Clone, Copy)]
-pub enum Intake {
-    TurnedAway(Refusal),
-    Taken(usize),
+// The frames that a slice begins with, up to the first that is not all there: their number and the length of their encodings.
+#[derive(Clone, Copy, Debug, PartialEq, Eq)]
+struct Walk {
+    frames: usize,
+    bytes: usize,
 }
 
-// The frames that a slice begins with, up to the first that is not all there.
-#[derive(Clone, Copy)]
-enum Walk {
-    Stopped { frames: usize, bytes: usize },
-    Refused(Refusal),
-}
-
-// The four bytes are compared without a branch, as one word is.
-fn begins(input: &[u8], expected: [u8; 4]) -> bool
-    requires { 4 ≤ length input.now }
-    ensures { result ≡ same (take 4 input.now) expected }
-{
-    (input[0] == expected[0])
-        & ((input[1] == expected[1]) & ((input[2] == expected[2]) & (input[3] == expected[3])))
-}
-
-// `expected` is the network's magic, which a walk takes once.
-fn prefix_with(network: NetworkMagic, expected: [u8; 4], input: &[u8]) -> Prefix
-    requires { expected ≡ magic network }
+// None where it is not all there yet.
+#[tactic(auto, using(crate::proofs::Answers::few_is, crate::proofs::Answers::wrong_is, crate::proofs::Answers::long_is, crate::proofs::Answers::begun_is, crate::proofs::Answers::full_is))]
+pub fn decode_frame_prefix(network: NetworkMagic, input: &[u8]) -> Result<Option<Prefix>, Refusal>
     ensures { result ≡ prefix_of (front network input.now) }
 {
     if input.len() < NetworkMagic::FRAME_HEADER_SIZE {
-        return Prefix::NotYet;
+        return Ok(None);
     }
-    if !begins(input, expected) {
-        let found = hns_encoding::u32_at(input, 0);
-        return Prefix::Refused(Refusal::magic_mismatch(network.as_u32(), found));
+    if hns_encoding::array_at(input, 0) != network.as_bytes() {
+        return Err(Refusal::MagicMismatch {
+            expected: u32::from(network),
+            found: hns_encoding::u32_at(input, 0),
+        });
     }
     let length = hns_encoding::u32_at(input, 5) as usize;
     if NetworkMagic::MAX_FRAME_PAYLOAD_SIZE < length {
-        return Prefix::Refused(Refusal::payload_too_large(length));
+        return Err(Refusal::PayloadTooLarge { actual: length });
     }
     let taken = NetworkMagic::FRAME_HEADER_SIZE + length;
     if input.len() < taken {
-        return Prefix::NotYet;
+        return Ok(None);
     }
-    let packet_type = input[4];
-    Prefix::Frame {
-        packet_type,
+    Ok(Some(Prefix {
+        packet_type: input[4],
         length,
         taken,
-    }
-}
-
-pub fn decode_frame_prefix(network: NetworkMagic, input: &[u8]) -> Prefix
-    ensures { result ≡ prefix_of (front network input.now) }
-{
-    prefix_with(network, network.as_bytes(), input)
+    }))
 }
 
 // The payload of the frame that the input begins with; the empty part where it begins with none.
+#[tactic(auto, using(crate::proofs::Answers::payload_not_yet, crate::proofs::Answers::payload_bad, crate::proofs::Answers::payload_within, crate::proofs::Answers::payload_whole))]
 pub fn payload(network: NetworkMagic, input: &[u8]) -> &[u8]
     ensures { result.now ≡ payload_of (front network input.now) }
 {
-    let start = NetworkMagic::FRAME_HEADER_SIZE;
     match decode_frame_prefix(network, input) {
-        Prefix::NotYet => &input[..0],
-        Prefix::Refused(_) => &input[..0],
-        Prefix::Frame {
-            packet_type: _,
-            length: _,
-            taken,
-        } => &input[start..taken],
+        Ok(Some(prefix)) => &input[NetworkMagic::FRAME_HEADER_SIZE..prefix.taken],
+        Ok(None) | Err(_) => &[],
     }
 }
 
+#[tactic(auto, using(crate::proofs::Answers::few_missing, crate::proofs::Answers::rest_missing))]
 fn bytes_needed_for_frame(input: &[u8]) -> usize
     ensures { result ≡ missing input.now }
 {
@@ -196,35 +161,24 @@ fn bytes_needed_for_frame(input: &[u8]) -> usize
         return NetworkMagic::FRAME_HEADER_SIZE - there;
     }
     let total = NetworkMagic::FRAME_HEADER_SIZE + hns_encoding::u32_at(input, 5) as usize;
-    if there < total { total - there } else { 0 }
+    total.saturating_sub(there)
 }
 
-pub fn decode_exact(network: NetworkMagic, input: &[u8]) -> Exact
+// All of the input as one frame.
+#[tactic(auto, using(crate::proofs::Answers::exact_bad, crate::proofs::Answers::exact_missing, crate::proofs::Answers::exact_left, crate::proofs::Answers::exact_one))]
+pub fn decode_exact(network: NetworkMagic, input: &[u8]) -> Result<Prefix, Refusal>
     ensures { result ≡ exact_of (decode_exact network input.now) }
 {
-    match decode_frame_prefix(network, input) {
-        Prefix::NotYet => {
-            let needed = bytes_needed_for_frame(input);
-            Exact::Refused(Refusal::incomplete_frame(needed))
-        }
-        Prefix::Refused(why) => Exact::Refused(why),
-        Prefix::Frame {
-            packet_type,
-            length,
-            taken,
-        } => {
-            if taken < input.len() {
-                return Exact::Refused(Refusal::trailing_bytes(input.len() - taken));
-            }
-            Exact::Frame {
-                packet_type,
-                length,
-            }
-        }
-    }
+    let Some(prefix) = decode_frame_prefix(network, input)? else {
+        return Err(Refusal::IncompleteFrame {
+            missing: bytes_needed_for_frame(input),
+        });
+    };
+    hns_encoding::finish(input, prefix.taken)?;
+    Ok(prefix)
 }
 
-// The nine bytes of a frame before its payload, which a put of the payload can follow in the same output.
+// The nine bytes of a frame before its payload, which a put of the payload can follow in the same output: the cursor is by value beside it, a form that document 01 names.
 pub fn put_frame_header(
     encoder: Encoder,
     out: &mut [u8],
@@ -234,72 +188,60 @@ pub fn put_frame_header(
 ) -> Encoder
     ensures { Put out.old encoder.position (magic network ++ (packet_type ∷ le_bytes 4 length)) out.new result.position }
 {
-    let bytes = network.as_bytes();
-    let e = encoder.put_bytes(out, &bytes);
-    let e = e.put_u8(out, packet_type);
-    e.put_u32_le(out, length)
+    encoder
+        .put_array(out, network.as_bytes())
+        .put_u8(out, packet_type)
+        .put_u32_le(out, length)
 }
 
-pub fn encode(network: NetworkMagic, packet_type: u8, payload: &[u8], out: &mut [u8]) -> Encoded
+// The length of the encoding that is written to the output's front.
+#[tactic(auto, using(crate::proofs::Writes::over_is, crate::proofs::Writes::short_is, crate::proofs::Writes::fits_is))]
+pub fn encode(
+    network: NetworkMagic,
+    packet_type: u8,
+    payload: &[u8],
+    out: &mut [u8],
+) -> Result<usize, Refusal>
     ensures value { result ≡ (write_frame network (record { packet_type = packet_type; payload = payload.now }) out.old).answer }
     ensures out_after { out.new ≡ (write_frame network (record { packet_type = packet_type; payload = payload.now }) out.old).output }
 {
     let length = payload.len();
     if NetworkMagic::MAX_FRAME_PAYLOAD_SIZE < length {
-        return Encoded::Refused(Refusal::payload_too_large(length));
+        return Err(Refusal::PayloadTooLarge { actual: length });
     }
     let total = NetworkMagic::FRAME_HEADER_SIZE + length;
     if out.len() < total {
-        return Encoded::Refused(Refusal::output_short(total));
+        return Err(Refusal::OutputShort { needed: total });
     }
-    let e = put_frame_header(Encoder::new(), out, network, packet_type, length as u32);
-    e.put_bytes(out, payload);
-    Encoded::Written(total)
+    put_frame_header(Encoder::new(), out, network, packet_type, length as u32).put_bytes(
+        out, payload,
+    );
+    Ok(total)
 }
 
-fn walk_frames(network: NetworkMagic, input: &[u8]) -> Walk
+#[tactic(auto, using(crate::proofs::Turns::walked_start, crate::proofs::Turns::turn_stops, crate::proofs::Turns::turn_refuses, crate::proofs::Turns::turn_gains, crate::proofs::Turns::turn_goes))]
+fn walk_frames(network: NetworkMagic, input: &[u8]) -> Result<Walk, Refusal>
     ensures { result ≡ walk_of network (walk network input.now) }
 {
-    let magic = network.as_bytes();
-    let mut frames: usize = 0;
-    let mut at: usize = 0;
-    loop {
-        match prefix_with(network, magic, &input[at..]) {
-            Prefix::NotYet => return Walk::Stopped { frames, bytes: at },
-            Prefix::Refused(why) => return Walk::Refused(why),
-            Prefix::Frame {
-                packet_type: _,
-                length: _,
-                taken,
-            } => {
-                frames += 1;
-                at += taken;
-            }
-        }
+    let mut frames = 0;
+    let mut bytes = 0;
+    while let Some(prefix) = decode_frame_prefix(network, &input[bytes..])? {
+        frames += 1;
+        bytes += prefix.taken;
     }
-}
-
-// Moves n bytes from a place on to the front.
-fn move_down(store: &mut [u8], from: usize, n: usize)
-    requires { from + n ≤ length store.old }
-    ensures { store.new ≡ splice store.old 0 (part store.old from n) }
-{
-    let mut i = 0;
-    while i < n {
-        store[i] = store[from + i];
-        i += 1;
-    }
+    Ok(Walk { frames, bytes })
 }
 
 // Copies the store's first bytes to the output's front, and moves the `left` bytes after them to its own. Where there are none to deliver, no byte moves.
+#[tactic(auto, using(crate::proofs::Slices::moved_down, crate::proofs::Slices::put_front, crate::proofs::Slices::none_moved, crate::proofs::Slices::none_put))]
 fn deliver(store: &mut [u8], bytes: usize, left: usize, output: &mut [u8])
     requires { (bytes + left ≤ length store.old) × (bytes ≤ length output.old) }
     ensures store_after { store.new ≡ splice store.old 0 (part store.old bytes left) }
     ensures output_after { output.new ≡ splice output.old 0 (take bytes store.old) }
 {
     if 0 < bytes {
-        Encoder::new().put_bytes(output, &store[..bytes]);
-        move_down(store, bytes, left);
+        output[..bytes].copy_from_slice(&store[..bytes]);
+        store.copy_within(bytes..bytes + left, 0);
     }
 }
 
@@ -311,43 +253,45 @@ fn settle(network: NetworkMagic, store: &mut [u8], total: usize, output: &mut [u
     ensures output_after { output.new ≡ (Push.settled network (walk network (take total store.old)) store.old total output.old).output }
 {
     match walk_frames(network, &store[..total]) {
-        Walk::Refused(why) => Pushed::Refused {
-            refusal: why,
+        Err(refusal) => Pushed::Refused {
+            refusal,
             held: total,
         },
-        Walk::Stopped { frames, bytes } => {
-            let left = total - bytes;
-            deliver(store, bytes, left, output);
+        Ok(Walk { frames, bytes }) => {
+            let held = total - bytes;
+            deliver(store, bytes, held, output);
             Pushed::Accepted {
                 frames,
                 bytes,
-                held: left,
+                held,
             }
         }
     }
 }
 
-// The tests of every push before it appends its input: 18, 6, 17, 16.
-pub fn take_in(store: &[u8], held: usize, input: &[u8], output: &[u8]) -> Intake
-    ensures { result ≡ Push.passing store.now held input.now output.now Intake.TurnedAway (Intake.Taken (held + length input.now)) }
+// The tests of every push before it appends its input: 18, 6, 17, 16. How many bytes held and input are together.
+#[tactic(auto, using(crate::proofs::Settles::takes_in_18, crate::proofs::Settles::takes_in_6, crate::proofs::Settles::takes_in_17, crate::proofs::Settles::takes_in_16, crate::proofs::Settles::takes_in_all))]
+pub fn take_in(store: &[u8], held: usize, input: &[u8], output: &[u8]) -> Result<usize, Refusal>
+    ensures { result ≡ Push.passing store.now held input.now output.now Err (Ok (held + length input.now)) }
 {
     if store.len() < held {
-        return Intake::TurnedAway(Refusal::held_over(held));
+        return Err(Refusal::HeldOver { held });
     }
     let total = held + input.len();
     if NetworkMagic::MAX_STREAM_BUFFER_SIZE < total {
-        return Intake::TurnedAway(Refusal::stream_too_large(total));
+        return Err(Refusal::StreamTooLarge { total });
     }
     if store.len() < total {
-        return Intake::TurnedAway(Refusal::store_short(total));
+        return Err(Refusal::StoreShort { needed: total });
     }
     if output.len() < total {
-        return Intake::TurnedAway(Refusal::output_short(total));
+        return Err(Refusal::OutputShort { needed: total });
     }
-    Intake::Taken(total)
+    Ok(total)
 }
 
-// Takes input into a stream whose held bytes are the store's first.
+// Takes input into a stream whose held bytes are the store's first. Store and held count come one by one, as C lends them.
+#[tactic(auto, using(crate::proofs::Settles::taken_within, crate::proofs::Settles::taken_long))]
 pub fn push(
     network: NetworkMagic,
     store: &mut [u8],
@@ -360,9 +304,9 @@ pub fn push(
     ensures output_after { output.new ≡ (Push.push network store.old held input.now output.old).output }
 {
     match take_in(store, held, input, output) {
-        Intake::TurnedAway(refusal) => Pushed::Refused { refusal, held },
-        Intake::Taken(total) => {
-            Encoder { position: held }.put_bytes(store, input);
+        Err(refusal) => Pushed::Refused { refusal, held },
+        Ok(total) => {
+            store[held..total].copy_from_slice(input);
             settle(network, store, total, output)
         }
     }

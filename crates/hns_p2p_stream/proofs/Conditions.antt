@@ -6,6 +6,7 @@ use mathlib.Core.Logic.{◌⊎◌, inl, inr}
 use native.Mathlib.Omega.{arith}
 use lib.ListN.{length, take}
 use Rattle.hns_refusals.specs.declared.Refusal.{Refusal}
+use Rattle.hns_refusals.specs.Refusals.{number}
 use Rattle.hns_encoding.specs.Bytes.{Bytes}
 use Rattle.hns_encoding.specs.Format.{All}
 use Rattle.hns_encoding.specs.Put.{splice}
@@ -61,7 +62,7 @@ same_refusal : {q r : Refusal} {n k : ℕ} → Refused q n ≡ Refused r k → q
 same_refusal e = cc
 
 untouched : {s : List ℕ} {h : ℕ} {o : List ℕ} {q r : Refusal} {k : ℕ} → Refused q h ≡ Refused r k
-    → (q.number ≡ 6) ⊎ (q.number ≡ 16) ⊎ (q.number ≡ 17) ⊎ (q.number ≡ 18) → Untouched s h o r k (turned_away q s h o)
+    → (number q ≡ 6) ⊎ (number q ≡ 16) ⊎ (number q ≡ 17) ⊎ (number q ≡ 18) → Untouched s h o r k (turned_away q s h o)
 untouched e n = record { number = rw (same_refusal e) at n; store = refl; output = refl; held = cc }
 
 module _ (net : NetworkMagic) (s : List ℕ) (h : ℕ) (x o : List ℕ) where
@@ -107,7 +108,7 @@ module _ (net : NetworkMagic) (s : List ℕ) (h : ℕ) (x o : List ℕ) where
   refuses r k (if_store_short a b c) e = inl (untouched e (inr (inr (inl refl))))
   refuses r k (if_output_short a b c d) e = inl (untouched e (inr (inl refl)))
   refuses r k (if_bad_header f fs rest q c w) e = inr (record { number = rw (same_refusal e) at ((refusals_are net).of_front rest q (front_is w)); store = refl; output = refl; held = cc })
-  refuses r k (accepted f fs rest c w) e = let z : ◌≡◌ {A = ℕ} 0 1 = cc in absurd (let v : ⊥ = omega arith in v)
+  refuses r k (accepted f fs rest c w) e = absurd (cc)
 
 pub push_exactly : PushExactly
 push_exactly net s h x o b d p = (λ e. rw e at (push_seen net s h x o b d), case_is net s h x o)

@@ -171,7 +171,7 @@ module _ (net : NetworkMagic) where
   then_quiet : (cs : List Call) (s : List ℕ) (h : ℕ) → Good s h → ByteInputs cs → (before later : List Event) → events push net s h cs ≡ before ++ later → AnyHeaderRefused before → Quiet later
   unfolding event events AnyHeaderRefused
   then_quiet cs s h g b [] later e q = absurd q
-  then_quiet [] s h g b (a ∷ es) later e q = let z : ◌≡◌ {A = ℕ} 0 1 = cc in absurd (let f : ⊥ = omega arith in f)
+  then_quiet [] s h g b (a ∷ es) later e q = absurd (cc)
   then_quiet (c ∷ cs) s h g b (a ∷ es) later e q =
       let st = steps net s h c.input c.output g b.0 in
       let i : event push net s h c ≡ a = cc in

@@ -137,5 +137,4 @@ module _ {net : NetworkMagic} {s : List ℕ} {h : ℕ} {x o : List ℕ} where
   step_stays (header r s' t w e l k) q = ((r, rw e w), λ fs d. d)
   step_stays (taken fs rest s' o' a) q =
       let m : walk net (take h s ++ x) ≡ refused q.0 = rw q.1 at (walk_more net x (take h s)) in
-      let z : ◌≡◌ {A = ℕ} 0 1 = cc (m, a.walked) in
-      absurd (let f : ⊥ = omega arith in f)
+      absurd (cc (m, a.walked))

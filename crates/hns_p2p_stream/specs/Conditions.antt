@@ -2,7 +2,7 @@
 use Rattle.std.specs.Prelude.{ℕ, ◌+◌, ◌≤◌, ◌<◌, ◌≡◌, List, ◌++◌, ◌⊎◌, length, take, drop}
 use Rattle.hns_refusals.specs.declared.Refusal.{Refusal}
 use Rattle.hns_refusals.specs.Limits.{max_stream}
-use Rattle.hns_refusals.specs.Refusals.{stream_too_large, output_short, store_short, held_over}
+use Rattle.hns_refusals.specs.Refusals.{number, stream_too_large, output_short, store_short, held_over}
 use Rattle.hns_encoding.specs.Bytes.{Bytes}
 use Rattle.hns_encoding.specs.Format.{All}
 use Rattle.hns_encoding.specs.Put.{splice}
@@ -46,14 +46,14 @@ PushExactly =
 
 -- refused before the append: nothing is written
 pub record Untouched (s : List ℕ) (h : ℕ) (o : List ℕ) (r : Refusal) (k : ℕ) (p : Result) : Type 0 where
-  pub number : (r.number ≡ 6) ⊎ (r.number ≡ 16) ⊎ (r.number ≡ 17) ⊎ (r.number ≡ 18)
+  pub number : (number r ≡ 6) ⊎ (number r ≡ 16) ⊎ (number r ≡ 17) ⊎ (number r ≡ 18)
   pub store : p.store ≡ s
   pub output : p.output ≡ o
   pub held : k ≡ h
 
 -- refused for a header: the input was added to the store, and nothing else is written
 pub record Appended (s : List ℕ) (h : ℕ) (x o : List ℕ) (r : Refusal) (k : ℕ) (p : Result) : Type 0 where
-  pub number : (r.number ≡ 4) ⊎ (r.number ≡ 5)
+  pub number : (number r ≡ 4) ⊎ (number r ≡ 5)
   pub store : p.store ≡ take h s ++ (x ++ drop (h + length x) s)
   pub output : p.output ≡ o
   pub held : k ≡ h + length x

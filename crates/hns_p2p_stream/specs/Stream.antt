@@ -3,7 +3,7 @@
 use Rattle.std.specs.Prelude.{ℕ, ◌+◌, ◌-◌, ◌≤◌, ◌≡◌, List, [], ◌∷◌, ◌++◌, Bool, true, ◌⊎◌, length, take, eqb, T}
 use Rattle.hns_refusals.specs.declared.Refusal.{Refusal}
 use Rattle.hns_refusals.specs.Limits.{header_size, max_payload, max_stream}
-use Rattle.hns_refusals.specs.Refusals.{stream_too_large, store_short, output_short}
+use Rattle.hns_refusals.specs.Refusals.{number, stream_too_large, store_short, output_short}
 use Rattle.hns_encoding.specs.Bytes.{Bytes, choose}
 use Rattle.hns_encoding.specs.Format.{All}
 use Rattle.hns_p2p_frame.specs.declared.NetworkMagic.{NetworkMagic}
@@ -73,7 +73,7 @@ held_after s es = take (count_after 0 es) (store_after s es)
 
 -- 4 or 5
 unfoldable pub for_header : Refusal → Bool
-for_header r = choose (eqb r.number 4) true (eqb r.number 5)
+for_header r = choose (eqb (number r) 4) true (eqb (number r) 5)
 
 -- the input of a push that was accepted or refused for a header; a push that was turned away before the append received nothing
 unfoldable pub received : Pushed → List ℕ → List ℕ

@@ -1,6 +1,6 @@
 -- A number more at a place of a tally, on plain lists. Assumes nothing.
-use Prim.Native.Nat.{ℕ, ◌+◌, ◌≤◌, ◌<◌, ◌^◌, ◌-◌}
-use native.Mathlib.Nat.{min-eq_left, min-eq_right}
+use Prim.Native.Nat.{ℕ, ◌+◌, ◌<◌, ◌^◌}
+use native.Mathlib.Nat.{min-eq_left}
 use native.Mathlib.Omega.{arith}
 use mathlib.Core.Path.{◌≡◌, sym, ap, ◌∙◌}
 use mathlib.Core.List.{List}
@@ -8,14 +8,6 @@ use lib.ListN.{length, get_or, set, length-set}
 use lib.Seq.{get_or-set_same, get_or-set_other, set-get_or, set-set, set_comm}
 use Rattle.hns_encoding.specs.Put.{advance}
 use Rattle.hns_p2p_tally.specs.Tally.{bytes_from, frame_total, byte_total, add_at, at_type, with_frame}
-
-pub add_fits : (t : List ℕ) (i n : ℕ) → n ≤ 18446744073709551615 - get_or t i 0 → get_or t i 0 < 2 ^ 64 → set t i (get_or t i 0 + n) ≡ add_at t i n
-unfolding add_at advance
-add_fits t i n h k = ap (set t i) (sym (min-eq_left (omega arith)))
-
-pub add_over : (t : List ℕ) (i n : ℕ) → 18446744073709551615 - get_or t i 0 < n → set t i 18446744073709551615 ≡ add_at t i n
-unfolding add_at advance
-add_over t i n h = ap (set t i) (sym (min-eq_right (omega arith)))
 
 pub length_add_at : (t : List ℕ) (i n : ℕ) → length (add_at t i n) ≡ length t
 unfolding add_at

@@ -4,12 +4,12 @@ use native.Mathlib.Omega.{arith}
 use mathlib.Core.Path.{◌≡◌, sym, ap, ap₂, ◌∙◌}
 use mathlib.Core.List.{List, [], append-nil}
 use lib.ListN.{length, get_or, take}
+use Rattle.std.specs.Prelude.{Ok, Err}
+use Rattle.hns_refusals.specs.Refusals.{Answer}
 use Rattle.hns_refusals.specs.declared.Refusal.{Refusal}
-use Rattle.hns_encoding.specs.Bytes.{Bytes}
+use Rattle.hns_encoding.proofs.Numbers.{bytes_take, bytes_known}
 use Rattle.hns_encoding.specs.Format.{All}
 use Rattle.hns_p2p_frame.specs.declared.NetworkMagic.{NetworkMagic}
-use Rattle.hns_p2p_frame.specs.declared.Intake.{Intake}
-use Rattle.hns_p2p_frame.specs.declared.Intake.TheVariants as In
 use Rattle.hns_p2p_frame.specs.declared.Pushed.{Pushed}
 use Rattle.hns_p2p_frame.specs.declared.Pushed.TheVariants as P
 use Rattle.hns_p2p_frame.specs.declared.Delivered.{Delivered}
@@ -32,10 +32,10 @@ use Rattle.hns_p2p_tally.proofs.Tested.{AllPassed, away_is, all_passed, all_pass
 
 -- what a function ensures that is to give this result
 abbrev pub Gives : Result → Delivered → List ℕ → List ℕ → List ℕ → Type 0
-Gives p r s o t = (r ≡ p.answer) × ((s ≡ p.store) × ((o ≡ p.output) × (t ≡ p.tally)))
+Gives p r s o t = record { value : r ≡ p.answer; store_after : s ≡ p.store; output_after : o ≡ p.output; tally_after : t ≡ p.tally }
 
 gives : {p : Result} (q : Result) → p ≡ q → Gives p q.answer q.store q.output q.tally
-gives q e = (rw e, (rw e, (rw e, rw e)))
+gives q e = record { value = rw e; store_after = rw e; output_after = rw e; tally_after = rw e }
 
 -- ---- encodings of frames are whole frames
 
@@ -51,36 +51,36 @@ record Front (net : NetworkMagic) (n b : ℕ) (o : List ℕ) : Type 0 where
   size : length (encodings net frames) ≡ b
   well_formed : All WellFormed frames
 
-module _ (net : NetworkMagic) (s : List ℕ) (h : ℕ) (x o t : List ℕ) {a : Intake} (q : a ≡ passing_all s h x o t In.TurnedAway (In.Taken (h + length x))) where
+module _ (net : NetworkMagic) (s : List ℕ) (h : ℕ) (x o t : List ℕ) {a : Answer ℕ} (q : a ≡ passing_all s h x o t Err (Ok (h + length x))) where
   pushed : Result
   pushed = let p = ported.push net s h x o in counted net t (delivered p.answer) p.store p.output
 
-  pub turned : {r : Refusal} → a ≡ In.TurnedAway r → {d : Delivered} → d ≡ Refused r 0 0 h → Gives (push_tallying net s h x o t) d s o t
+  pub turned : {r : Refusal} → a ≡ Err r → {d : Delivered} → d ≡ Refused r 0 0 h → Gives (push_tallying net s h x o t) d s o t
   unfolding push_tallying pushed
   turned {r} e i = rw i (gives (turned_away r s h o t) (away_is s h x o t q e (λ (v : Refusal). turned_away v s h o t) pushed))
 
-  module _ {n : ℕ} (e : a ≡ In.Taken n) {r : Pushed} {s₁ o₁ : List ℕ}
-      (p : (r ≡ (ported.push net s h x o).answer) × ((s₁ ≡ (ported.push net s h x o).store) × (o₁ ≡ (ported.push net s h x o).output))) where
+  module _ {n : ℕ} (e : a ≡ Ok n) {r : Pushed} {s₁ o₁ : List ℕ}
+      (p : record { value : r ≡ (ported.push net s h x o).answer; store_after : s₁ ≡ (ported.push net s h x o).store; output_after : o₁ ≡ (ported.push net s h x o).output }) where
     pub passed : AllPassed s h x o t
     passed = all_passed s h x o t q e
 
     -- what it answered, counted
     whole : Gives (push_tallying net s h x o t) (delivered r) s₁ o₁ (recount t (cut net (take (told (delivered r)).bytes o₁)).frames)
     unfolding push_tallying pushed
-    whole = rw (p.0, p.1.0, p.1.1) (gives pushed (all_passed_is s h x o t (λ (v : Refusal). turned_away v s h o t) pushed passed))
+    whole = rw (p.value, p.store_after, p.output_after) (gives pushed (all_passed_is s h x o t (λ (v : Refusal). turned_away v s h o t) pushed passed))
 
     -- refused for a header: nothing is counted
     pub refuses : {v : Refusal} {k : ℕ} → r ≡ P.Refused v k → {d : Delivered} → d ≡ Refused v 0 0 k → Gives (push_tallying net s h x o t) d s₁ o₁ t
     unfolding delivered told cut cut_up_to recount
     refuses f i = rw i (rw f at whole)
 
-    module _ (held : Bytes (take h s)) (input : Bytes x) {m b k : ℕ} (f : r ≡ P.Accepted m b k) where
+    module _ (held : (i : ℕ) → get_or s i 0 < 256) (input : (i : ℕ) → get_or x i 0 < 256) {m b k : ℕ} (f : r ≡ P.Accepted m b k) where
       front : Front net m b o₁
-      front = go (steps net s h x o (record { fits = passed.passed.held; bytes = held }) input) p.1.1 (sym f ∙ p.0)
+      front = go (steps net s h x o (record { fits = passed.passed.held; bytes = bytes_take h (bytes_known s held) }) (bytes_known x input)) p.output_after (sym f ∙ p.value)
         where
           go : {w : ported.Result} → Stepped net s h x o w → o₁ ≡ w.output → P.Accepted m b k ≡ w.answer → Front net m b o₁
-          go (away v u) g i = let z : ◌≡◌ {A = ℕ} 0 1 = cc i in absurd (let y : ⊥ = omega arith in y)
-          go (header v s' u w y z l) g i = let z : ◌≡◌ {A = ℕ} 0 1 = cc i in absurd (let y : ⊥ = omega arith in y)
+          go (away v u) g i = absurd (cc i)
+          go (header v s' u w y z l) g i = absurd (cc i)
           go (taken fs rest s' o' c) g i =
               let size : length (encodings net fs) ≡ b = cc i in
               record { frames = fs; count = cc i; are = rw (g, ← size) c.delivered; size = size; well_formed = c.well_formed }

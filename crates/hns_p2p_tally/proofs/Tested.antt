@@ -8,11 +8,11 @@ use lib.ListN.{length, get_or}
 use lib.Dec.{leb}
 use borrow.Author.Tests.{le-leb, lt-leb, leb-true, leb-false}
 use Rattle.hns_refusals.specs.declared.Refusal.{Refusal}
-use Rattle.hns_refusals.specs.Refusals.{output_short, tally_full}
+use Rattle.std.specs.Prelude.{Ok, Err}
+use Rattle.hns_refusals.specs.Refusals.{Answer, output_short, tally_full}
+use Rattle.hns_refusals.specs.Limits.{max_stream}
 use Rattle.hns_encoding.specs.Bytes.{choose}
 use Rattle.hns_encoding.proofs.Outcomes.{choose_holds, choose_leb}
-use Rattle.hns_p2p_frame.specs.declared.Intake.{Intake}
-use Rattle.hns_p2p_frame.specs.declared.Intake.TheVariants as In
 use Rattle.hns_p2p_frame.specs.Push.{passing}
 use Rattle.hns_p2p_frame.proofs.Tests.{Passed, passing_away, passing_taken, passed_is}
 use Rattle.hns_p2p_tally.specs.Tally.{tally_size, frame_total, byte_total, most_counted, roomy, Roomy, Passes}
@@ -21,7 +21,7 @@ use Rattle.hns_p2p_tally.specs.Tallying.{passing_all}
 
 -- `away` is what a refusal gives, and p what a push gives that no test turns away
 pub data AllTested {A : Type 0} (s : List ℕ) (h : ℕ) (x o t : List ℕ) (away : Refusal → A) (p : A) : A → Type 0 where
-  of_push : {r : Refusal} → passing s h x o In.TurnedAway (In.Taken (h + length x)) ≡ In.TurnedAway r → AllTested s h x o t away p (away r)
+  of_push : {r : Refusal} → passing s h x o Err (Ok (h + length x)) ≡ Err r → AllTested s h x o t away p (away r)
   short : Passed s h x o → length t < tally_size → AllTested s h x o t away p (away (output_short tally_size))
   full : Passed s h x o → tally_size ≤ length t → roomy t (h + length x) ≡ false → AllTested s h x o t away p (away tally_full)
   room : Passed s h x o → tally_size ≤ length t → roomy t (h + length x) ≡ true → AllTested s h x o t away p p
@@ -32,11 +32,11 @@ module _ {A : Type 0} (s : List ℕ) (h : ℕ) (x o t : List ℕ) (away : Refusa
 
   pub passes_all : AllTested s h x o t away p (passing_all s h x o t away p)
   unfolding passing_all last
-  passes_all = go (passing s h x o In.TurnedAway (In.Taken (h + length x))) refl
+  passes_all = go (passing s h x o Err (Ok (h + length x))) refl
     where
-      go : (a : Intake) → passing s h x o In.TurnedAway (In.Taken (h + length x)) ≡ a → AllTested s h x o t away p (passing_all s h x o t away p)
-      go (In.TurnedAway r) e = rw (passing_away s h x o refl e away last) (of_push e)
-      go (In.Taken n) e =
+      go : (a : Answer ℕ) → passing s h x o Err (Ok (h + length x)) ≡ a → AllTested s h x o t away p (passing_all s h x o t away p)
+      go (Err r) e = rw (passing_away s h x o refl e away last) (of_push e)
+      go (Ok n) e =
           let f = (passing_taken s h x o refl e).1 in
           rw (passed_is away last f)
           (choose_leb (AllTested s h x o t away p) tally_size (length t)
@@ -99,29 +99,30 @@ module _ (t : List ℕ) (n : ℕ) where
 
 -- ---- the tests
 
-module _ (s : List ℕ) (h : ℕ) (x o t : List ℕ) {a : Intake} (q : a ≡ passing s h x o In.TurnedAway (In.Taken (h + length x))) where
-  abbrev TakesIn : Intake → Type 0
-  TakesIn b = b ≡ passing_all s h x o t In.TurnedAway (In.Taken (h + length x))
+module _ (s : List ℕ) (h : ℕ) (x o t : List ℕ) {a : Answer ℕ} (q : a ≡ passing s h x o Err (Ok (h + length x))) where
+  pub takes_in_away : {r : Refusal} → a ≡ Err r → Err r ≡ passing_all s h x o t Err (Ok (h + length x))
+  takes_in_away e = sym (passing_all_is s h x o t Err (Ok (h + length x)) (of_push (sym q ∙ e)))
 
-  pub takes_in_away : {r : Refusal} → a ≡ In.TurnedAway r → TakesIn (In.TurnedAway r)
-  takes_in_away e = sym (passing_all_is s h x o t In.TurnedAway (In.Taken (h + length x)) (of_push (sym q ∙ e)))
-
-  module _ {n : ℕ} (e : a ≡ In.Taken n) where
-    pub total : n ≡ h + length x
+  module _ {n : ℕ} (e : a ≡ Ok n) where
+    total : n ≡ h + length x
     total = (passing_taken s h x o q e).0
 
-    pub passed : Passed s h x o
+    passed : Passed s h x o
     passed = (passing_taken s h x o q e).1
 
-    pub takes_in_short : length t < tally_size → {r : Refusal} → r ≡ output_short tally_size → TakesIn (In.TurnedAway r)
-    takes_in_short l i = rw i (sym (passing_all_is s h x o t In.TurnedAway (In.Taken (h + length x)) (short passed l)))
+    -- held bytes and input are far fewer than a total may be
+    pub few : n ≤ max_stream
+    few = omega (arith, total, passed.stream)
+
+    pub takes_in_short : length t < tally_size → Err (output_short tally_size) ≡ passing_all s h x o t Err (Ok (h + length x))
+    takes_in_short l = sym (passing_all_is s h x o t Err (Ok (h + length x)) (short passed l))
 
     module _ (l : tally_size ≤ length t) where
-      pub takes_in_full : Passes t n → {r : Refusal} → r ≡ tally_full → TakesIn (In.TurnedAway r)
-      takes_in_full k j = rw j (sym (passing_all_is s h x o t In.TurnedAway (In.Taken (h + length x)) (full passed l (ap (roomy t) (sym total) ∙ passes_is t n k))))
+      pub takes_in_full : (most_counted < get_or t frame_total 0 + n) ⊎ (most_counted < get_or t byte_total 0 + n) → Err tally_full ≡ passing_all s h x o t Err (Ok (h + length x))
+      takes_in_full k = sym (passing_all_is s h x o t Err (Ok (h + length x)) (full passed l (ap (roomy t) (sym total) ∙ passes_is t n k)))
 
-      pub takes_in_all : get_or t frame_total 0 + n ≤ most_counted → get_or t byte_total 0 + n ≤ most_counted → TakesIn (In.Taken n)
-      takes_in_all j k = ap In.Taken total ∙ sym (passing_all_is s h x o t In.TurnedAway (In.Taken (h + length x)) (room passed l (ap (roomy t) (sym total) ∙ roomy_is t n (record { size = l; frames = j; bytes = k }))))
+      pub takes_in_all : get_or t frame_total 0 + n ≤ most_counted → get_or t byte_total 0 + n ≤ most_counted → Ok n ≡ passing_all s h x o t Err (Ok (h + length x))
+      takes_in_all j k = ap Ok total ∙ sym (passing_all_is s h x o t Err (Ok (h + length x)) (room passed l (ap (roomy t) (sym total) ∙ roomy_is t n (record { size = l; frames = j; bytes = k }))))
 
 -- ---- what `take_in_tallying` answered, and what a push then gives
 
@@ -130,26 +131,26 @@ pub record AllPassed (s : List ℕ) (h : ℕ) (x o t : List ℕ) : Type 0 where
   pub long : tally_size ≤ length t
   pub roomy : roomy t (h + length x) ≡ true
 
-module _ (s : List ℕ) (h : ℕ) (x o t : List ℕ) {a : Intake} (q : a ≡ passing_all s h x o t In.TurnedAway (In.Taken (h + length x))) where
-  pub away_is : {r : Refusal} → a ≡ In.TurnedAway r → {A : Type 0} (away : Refusal → A) (p : A) → passing_all s h x o t away p ≡ away r
-  away_is {r} e away p = go (passes_all s h x o t In.TurnedAway (In.Taken (h + length x))) (sym q ∙ e)
+module _ (s : List ℕ) (h : ℕ) (x o t : List ℕ) {a : Answer ℕ} (q : a ≡ passing_all s h x o t Err (Ok (h + length x))) where
+  pub away_is : {r : Refusal} → a ≡ Err r → {A : Type 0} (away : Refusal → A) (p : A) → passing_all s h x o t away p ≡ away r
+  away_is {r} e away p = go (passes_all s h x o t Err (Ok (h + length x))) (sym q ∙ e)
     where
-      one : {v : Refusal} → In.TurnedAway v ≡ In.TurnedAway r → away v ≡ away r
+      one : {v : Refusal} → ◌≡◌ {A = Answer ℕ} (Err v) (Err r) → away v ≡ away r
       one i = ap away (cc i)
 
-      go : {b : Intake} → AllTested s h x o t In.TurnedAway (In.Taken (h + length x)) b → b ≡ In.TurnedAway r → passing_all s h x o t away p ≡ away r
+      go : {b : Answer ℕ} → AllTested s h x o t Err (Ok (h + length x)) b → b ≡ Err r → passing_all s h x o t away p ≡ away r
       go (of_push e) i = passing_all_is s h x o t away p (of_push e) ∙ one i
       go (short f l) i = passing_all_is s h x o t away p (short f l) ∙ one i
       go (full f l b) i = passing_all_is s h x o t away p (full f l b) ∙ one i
-      go (room f l b) i = let z : ◌≡◌ {A = ℕ} 0 1 = cc i in absurd (let k : ⊥ = omega arith in k)
+      go (room f l b) i = absurd (cc i)
 
-  pub all_passed : {n : ℕ} → a ≡ In.Taken n → AllPassed s h x o t
-  all_passed {n} e = go (passes_all s h x o t In.TurnedAway (In.Taken (h + length x))) (sym q ∙ e)
+  pub all_passed : {n : ℕ} → a ≡ Ok n → AllPassed s h x o t
+  all_passed {n} e = go (passes_all s h x o t Err (Ok (h + length x))) (sym q ∙ e)
     where
-      never : {v : Refusal} {B : Type 0} → In.TurnedAway v ≡ In.Taken n → B
-      never i = let z : ◌≡◌ {A = ℕ} 0 1 = cc i in absurd (let f : ⊥ = omega arith in f)
+      never : {v : Refusal} {B : Type 0} → ◌≡◌ {A = Answer ℕ} (Err v) (Ok n) → B
+      never i = absurd (cc i)
 
-      go : {b : Intake} → AllTested s h x o t In.TurnedAway (In.Taken (h + length x)) b → b ≡ In.Taken n → AllPassed s h x o t
+      go : {b : Answer ℕ} → AllTested s h x o t Err (Ok (h + length x)) b → b ≡ Ok n → AllPassed s h x o t
       go (of_push e) i = never i
       go (short f l) i = never i
       go (full f l b) i = never i

@@ -4,13 +4,13 @@ use mathlib.Core.Path.{◌≡◌, refl, sym, ap, ◌∙◌, subst}
 use mathlib.Core.List.{List, ◌++◌}
 use mathlib.Core.Logic.{◌⊎◌, inl, inr, ⊎_elim}
 use native.Mathlib.Omega.{arith}
-use lib.ListN.{length, take}
+use lib.ListN.{get_or, length, take}
+use Rattle.std.specs.Prelude.{Ok, Err}
 use Rattle.hns_refusals.specs.declared.Refusal.{Refusal}
-use Rattle.hns_refusals.specs.Refusals.{output_short, tally_full}
+use Rattle.hns_refusals.specs.Refusals.{number, values, output_short, tally_full}
 use Rattle.hns_encoding.specs.Bytes.{Bytes}
 use Rattle.hns_encoding.specs.Put.{splice}
 use Rattle.hns_p2p_frame.specs.declared.NetworkMagic.{NetworkMagic}
-use Rattle.hns_p2p_frame.specs.declared.Intake.TheVariants as In
 use Rattle.hns_p2p_frame.specs.declared.Pushed.{Pushed}
 use Rattle.hns_p2p_frame.specs.declared.Pushed.TheVariants as P
 use Rattle.hns_p2p_frame.specs.declared.Delivered.TheVariants.{Refused}
@@ -65,30 +65,30 @@ record Inverted (a : Pushed) (r : Refusal) (n m k : ℕ) : Type 0 where
 
 inverted : (a : Pushed) {r : Refusal} {n m k : ℕ} → delivered a ≡ Refused r n m k → Inverted a r n m k
 unfolding delivered
-inverted (P.Accepted n m k) e = let z : ◌≡◌ {A = ℕ} 0 1 = cc in absurd (let f : ⊥ = omega arith in f)
+inverted (P.Accepted n m k) e = absurd (cc)
 inverted (P.Refused r k) e = record { answer = cc; frames = cc; bytes = cc }
 
-same_c : {q r : Refusal} {n k : ℕ} → P.Refused q n ≡ P.Refused r k → q.c ≡ 0 → r.c ≡ 0
-same_c {q} {r} e c = let i : q ≡ r = cc in subst (λ (v : Refusal). v.c ≡ 0) i c
+same_c : {q r : Refusal} {n k : ℕ} → P.Refused q n ≡ P.Refused r k → get_or (values q) 2 0 ≡ 0 → get_or (values r) 2 0 ≡ 0
+same_c {q} {r} e c = let i : q ≡ r = cc in subst (λ (v : Refusal). get_or (values v) 2 0 ≡ 0) i c
 
-front_no_c : {net : NetworkMagic} {rest : List ℕ} {r : Refusal} → FrontIs net rest (bad r) → r.c ≡ 0
+front_no_c : {net : NetworkMagic} {rest : List ℕ} {r : Refusal} → FrontIs net rest (bad r) → get_or (values r) 2 0 ≡ 0
 front_no_c (wrong a e) = refl
 front_no_c (long a e f) = refl
 
-no_c : {net : NetworkMagic} {s : List ℕ} {h : ℕ} {x o : List ℕ} {w : ported.Result} → PushIs net s h x o w → {r : Refusal} {k : ℕ} → w.answer ≡ P.Refused r k → r.c ≡ 0
+no_c : {net : NetworkMagic} {s : List ℕ} {h : ℕ} {x o : List ℕ} {w : ported.Result} → PushIs net s h x o w → {r : Refusal} {k : ℕ} → w.answer ≡ P.Refused r k → get_or (values r) 2 0 ≡ 0
 no_c (if_held_over a) e = same_c e refl
 no_c (stream_over a b) e = same_c e refl
 no_c (if_store_short a b c) e = same_c e refl
 no_c (if_output_short a b c d) e = same_c e refl
 no_c (if_bad_header f fs rest r c w) e = same_c e (front_no_c w)
-no_c (accepted f fs rest c w) e = let z : ◌≡◌ {A = ℕ} 0 1 = cc in absurd (let v : ⊥ = omega arith in v)
+no_c (accepted f fs rest c w) e = absurd (cc)
 
-wider : {s : List ℕ} {h : ℕ} {o : List ℕ} {r : Refusal} {k : ℕ} {w : ported.Result} → push.Untouched s h o r k w → (r.number ≡ 6) ⊎ (r.number ≡ 16) ⊎ (r.number ≡ 17) ⊎ (r.number ≡ 18) ⊎ (r.number ≡ 20)
+wider : {s : List ℕ} {h : ℕ} {o : List ℕ} {r : Refusal} {k : ℕ} {w : ported.Result} → push.Untouched s h o r k w → (number r ≡ 6) ⊎ (number r ≡ 16) ⊎ (number r ≡ 17) ⊎ (number r ≡ 18) ⊎ (number r ≡ 20)
 wider u = ⊎_elim (λ i. inl i) (⊎_elim (λ i. inr (inl i)) (⊎_elim (λ i. inr (inr (inl i))) (λ i. inr (inr (inr (inl i)))))) u.number
 
 none_counted : (net : NetworkMagic) (t o : List ℕ) (a : Pushed) (fs : List Frame) → Delivers net a o fs → {r : Refusal} {k : ℕ} → a ≡ P.Refused r k → recount t fs ≡ t
 unfolding Delivers recount
-none_counted net t o (P.Accepted n m k) fs d e = let z : ◌≡◌ {A = ℕ} 0 1 = cc e in absurd (let v : ⊥ = omega arith in v)
+none_counted net t o (P.Accepted n m k) fs d e = absurd (cc e)
 none_counted net t o (P.Refused r k) fs d e = rw d
 
 module _ (net : NetworkMagic) (s : List ℕ) (h : ℕ) (x o t : List ℕ) where
@@ -103,15 +103,14 @@ module _ (net : NetworkMagic) (s : List ℕ) (h : ℕ) (x o t : List ℕ) where
   given a = passing_all_is s h x o t turned done a
 
   -- the ported push turned away
-  push_away : {r : Refusal} → passing s h x o In.TurnedAway (In.Taken (h + length x)) ≡ In.TurnedAway r → ported.push net s h x o ≡ ported.turned_away r s h o
+  push_away : {r : Refusal} → passing s h x o Err (Ok (h + length x)) ≡ Err r → ported.push net s h x o ≡ ported.turned_away r s h o
   unfolding ported.push admitted
   push_away e = passing_away s h x o refl e (λ (v : Refusal). ported.turned_away v s h o) (settled net (walk net (take h s ++ x)) (splice s h x) (h + length x) o)
 
-  not_fits : {r : Refusal} → passing s h x o In.TurnedAway (In.Taken (h + length x)) ≡ In.TurnedAway r → ¬ Fits s h x o
+  not_fits : {r : Refusal} → passing s h x o Err (Ok (h + length x)) ≡ Err r → ¬ Fits s h x o
   not_fits {r} e f =
-      let q : passing s h x o In.TurnedAway (In.Taken (h + length x)) ≡ In.Taken (h + length x) = passing_is (fits f.held f.stream f.store f.output) in
-      let z : ◌≡◌ {A = ℕ} 0 1 = cc (q, e) in
-      omega arith
+      let q : passing s h x o Err (Ok (h + length x)) ≡ Ok (h + length x) = passing_is (fits f.held f.stream f.store f.output) in
+      cc (q, e)
 
   module _ (b : Bytes (take h s)) (d : Bytes x) where
     push_seen : PushIs net s h x o (ported.push net s h x o)
@@ -171,14 +170,14 @@ module _ (net : NetworkMagic) (s : List ℕ) (h : ℕ) (x o t : List ℕ) where
         }
 
     -- turned away by q, which is no refusal of the ported push
-    from_tally : {q : Refusal} → (q.number ≡ 16) ⊎ (q.number ≡ 20) → q.c ≡ 0 → {r : Refusal} {n m k : ℕ} → Refused q 0 0 h ≡ Refused r n m k
+    from_tally : {q : Refusal} → (number q ≡ 16) ⊎ (number q ≡ 20) → get_or (values q) 2 0 ≡ 0 → {r : Refusal} {n m k : ℕ} → Refused q 0 0 h ≡ Refused r n m k
         → RefusedBy s h x o t r n m k (turned_away q s h o t)
     from_tally {q} number c {r} e =
         let same : q ≡ r = cc in
         record {
           frames = cc;
           bytes = cc;
-          no_c = subst (λ (v : Refusal). v.c ≡ 0) same c;
+          no_c = subst (λ (v : Refusal). get_or (values v) 2 0 ≡ 0) same c;
           leaves = inl (record { number = ⊎_elim (λ i. inr (inl (rw (← same) i))) (λ i. inr (inr (inr (inr (rw (← same) i))))) number; store = refl; output = refl; tally = refl; held = cc });
         }
 
@@ -190,7 +189,7 @@ module _ (net : NetworkMagic) (s : List ℕ) (h : ℕ) (x o t : List ℕ) where
 
     -- ---- 20
 
-    push_below : {w : ported.Result} → PushIs net s h x o w → {r : Refusal} {k : ℕ} → delivered w.answer ≡ Refused r 0 0 k → r.number ≡ 20 → ⊥
+    push_below : {w : ported.Result} → PushIs net s h x o w → {r : Refusal} {k : ℕ} → delivered w.answer ≡ Refused r 0 0 k → number r ≡ 20 → ⊥
     push_below {w} p {r} {k} e n =
         let same : ported.push net s h x o ≡ w = (push_exactly net s h x o b d w).1 p in
         let refused : push.Untouched s h o r k w ⊎ push.Appended s h x o r k w = (rw same at (push_refusals net s h x o b d r k)) (inverted w.answer e).answer in
@@ -199,7 +198,7 @@ module _ (net : NetworkMagic) (s : List ℕ) (h : ℕ) (x o t : List ℕ) where
         (λ u. ⊎_elim (λ i. omega (arith, i)) (λ i. omega (arith, i)) u.number)
         refused
 
-    full_only : {q : Result} → TallyingIs net s h x o t q → {r : Refusal} {k : ℕ} → r.number ≡ 20 → q.answer ≡ Refused r 0 0 k → Fits s h x o × (tally_size ≤ length t) × Passes t (h + length x)
+    full_only : {q : Result} → TallyingIs net s h x o t q → {r : Refusal} {k : ℕ} → number r ≡ 20 → q.answer ≡ Refused r 0 0 k → Fits s h x o × (tally_size ≤ length t) × Passes t (h + length x)
     full_only (push_turned_away n p) i e = absurd (push_below p e i)
     full_only (tally_short f l) {r} i e = let same : output_short tally_size ≡ r = cc in absurd (let j : ◌≡◌ {A = ℕ} 16 20 = rw (← same) at i in let z : ⊥ = omega arith in z)
     full_only (if_tally_full f l p) i e = (f, l, p)

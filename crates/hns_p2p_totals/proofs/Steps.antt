@@ -5,14 +5,13 @@ use mathlib.Core.List.{List, [], ◌∷◌, ◌++◌, append-nil}
 use mathlib.Core.Bool.{false}
 use native.Mathlib.Omega.{arith}
 use lib.ListN.{length, take, length-append, length-take}
+use Rattle.std.specs.Prelude.{Ok, Err}
 use Rattle.hns_refusals.specs.declared.Refusal.{Refusal}
-use Rattle.hns_refusals.specs.Refusals.{output_short, tally_full}
+use Rattle.hns_refusals.specs.Refusals.{Answer, output_short, tally_full}
 use Rattle.hns_encoding.specs.Bytes.{Bytes}
 use Rattle.hns_encoding.specs.Format.{All}
 use Rattle.hns_encoding.proofs.Outcomes.{choose_holds}
 use Rattle.hns_p2p_frame.specs.declared.NetworkMagic.{NetworkMagic}
-use Rattle.hns_p2p_frame.specs.declared.Intake.{Intake}
-use Rattle.hns_p2p_frame.specs.declared.Intake.TheVariants as In
 use Rattle.hns_p2p_frame.specs.Frame.{Frame, WellFormed, encodings}
 use Rattle.hns_p2p_frame.specs.Walk.{cut}
 use Rattle.hns_p2p_frame.specs.Push as ported
@@ -89,19 +88,19 @@ module _ {net : NetworkMagic} {z : Stream (List ℕ)} {x : List ℕ} {p : Left (
   taken = record { step = st; counts = record { recounts = recounts; exact = λ s gs fs h. exact fs h s gs } }
 
 -- a refusal before the append is none for a header
-pub away_code : (s : List ℕ) (h : ℕ) (x o : List ℕ) {r : Refusal} → passing s h x o In.TurnedAway (In.Taken (h + length x)) ≡ In.TurnedAway r → for_header r ≡ false
+pub away_code : (s : List ℕ) (h : ℕ) (x o : List ℕ) {r : Refusal} → passing s h x o Err (Ok (h + length x)) ≡ Err r → for_header r ≡ false
 unfolding for_header
-away_code s h x o {r} e = go (passes s h x o In.TurnedAway (In.Taken (h + length x))) e
+away_code s h x o {r} e = go (passes s h x o Err (Ok (h + length x))) e
   where
-    one : {v : Refusal} → for_header v ≡ false → In.TurnedAway v ≡ In.TurnedAway r → for_header r ≡ false
+    one : {v : Refusal} → for_header v ≡ false → ◌≡◌ {A = Answer ℕ} (Err v) (Err r) → for_header r ≡ false
     one {v} f i = let same : v ≡ r = cc i in subst (λ (q : Refusal). for_header q ≡ false) same f
 
-    go : {b : Intake} → Tested s h x o In.TurnedAway (In.Taken (h + length x)) b → b ≡ In.TurnedAway r → for_header r ≡ false
+    go : {b : Answer ℕ} → Tested s h x o Err (Ok (h + length x)) b → b ≡ Err r → for_header r ≡ false
     go (over a) i = one refl i
     go (large a b) i = one refl i
     go (unstored a b c) i = one refl i
     go (no_room a b c d) i = one refl i
-    go (fits a b c d) i = let z : ◌≡◌ {A = ℕ} 0 1 = cc i in absurd (let f : ⊥ = omega arith in f)
+    go (fits a b c d) i = absurd (cc i)
 
 pub tally_step : (net : NetworkMagic) (z : Stream (List ℕ)) (x o : List ℕ) → GoodOn z → Bytes x → TallyStep net z x (tallying_ported net z x o)
 unfolding tallying_ported push_tallying told for_header

@@ -1,7 +1,7 @@
 -- Document 02, T-01: the answers of the tallying push as conditions, both ways, with what store, output and tally then hold; which refusals it can give, and what each leaves.
-use Rattle.std.specs.Prelude.{ℕ, ◌+◌, ◌≤◌, ◌<◌, ◌≡◌, List, ◌++◌, ◌⊎◌, length, take, drop}
+use Rattle.std.specs.Prelude.{ℕ, ◌+◌, ◌≤◌, ◌<◌, ◌≡◌, List, ◌++◌, ◌⊎◌, length, get_or, take, drop}
 use Rattle.hns_refusals.specs.declared.Refusal.{Refusal}
-use Rattle.hns_refusals.specs.Refusals.{output_short, tally_full}
+use Rattle.hns_refusals.specs.Refusals.{number, values, output_short, tally_full}
 use Rattle.hns_encoding.specs.Bytes.{Bytes}
 use Rattle.hns_p2p_frame.specs.declared.NetworkMagic.{NetworkMagic}
 use Rattle.hns_p2p_frame.specs.declared.Delivered.TheVariants.{Refused}
@@ -46,14 +46,14 @@ TallyingExactly = TallyingExactlyFor push_tallying
 abbrev pub FullExactly : Type 0
 FullExactly =
     (net : NetworkMagic) (s : List ℕ) (h : ℕ) (x o t : List ℕ) → Bytes (take h s) → Bytes x
-    → ((r : Refusal) × (k : ℕ) × (r.number ≡ 20) × ((push_tallying net s h x o t).answer ≡ Refused r 0 0 k))
+    → ((r : Refusal) × (k : ℕ) × (number r ≡ 20) × ((push_tallying net s h x o t).answer ≡ Refused r 0 0 k))
     ⇔ (Fits s h x o × (tally_size ≤ length t) × Passes t (h + length x))
 
 -- ---- demand 1 of the tallying push
 
 -- turned away: nothing is written
 pub record Untouched (s : List ℕ) (h : ℕ) (o t : List ℕ) (r : Refusal) (k : ℕ) (p : Result) : Type 0 where
-  pub number : (r.number ≡ 6) ⊎ (r.number ≡ 16) ⊎ (r.number ≡ 17) ⊎ (r.number ≡ 18) ⊎ (r.number ≡ 20)
+  pub number : (number r ≡ 6) ⊎ (number r ≡ 16) ⊎ (number r ≡ 17) ⊎ (number r ≡ 18) ⊎ (number r ≡ 20)
   pub store : p.store ≡ s
   pub output : p.output ≡ o
   pub tally : p.tally ≡ t
@@ -61,7 +61,7 @@ pub record Untouched (s : List ℕ) (h : ℕ) (o t : List ℕ) (r : Refusal) (k 
 
 -- refused for a header: the input was added to the held bytes, and nothing else is written
 pub record Appended (s : List ℕ) (h : ℕ) (x o t : List ℕ) (r : Refusal) (k : ℕ) (p : Result) : Type 0 where
-  pub number : (r.number ≡ 4) ⊎ (r.number ≡ 5)
+  pub number : (number r ≡ 4) ⊎ (number r ≡ 5)
   pub store : p.store ≡ take h s ++ (x ++ drop (h + length x) s)
   pub output : p.output ≡ o
   pub tally : p.tally ≡ t
@@ -71,7 +71,7 @@ pub record Appended (s : List ℕ) (h : ℕ) (x o t : List ℕ) (r : Refusal) (k
 pub record RefusedBy (s : List ℕ) (h : ℕ) (x o t : List ℕ) (r : Refusal) (n b k : ℕ) (p : Result) : Type 0 where
   pub frames : n ≡ 0
   pub bytes : b ≡ 0
-  pub no_c : r.c ≡ 0
+  pub no_c : get_or (values r) 2 0 ≡ 0
   pub leaves : Untouched s h o t r k p ⊎ Appended s h x o t r k p
 
 -- `tallying_refusals` of proofs/Conditions.antt

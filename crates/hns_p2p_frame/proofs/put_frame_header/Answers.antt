@@ -7,4 +7,4 @@ use Rattle.hns_p2p_frame.proofs.put_frame_header.Goals as goal
 pub returns : goal.returns
 returns c =
     let lent : length c.args.out.now < 2 ^ 64 = omega arith in
-    rw (← c.as_bytes-bytes.ensures) ((c.put_bytes-e.ensures ⨟ c.put_u8-e.ensures ⨟ (λ h. c.put_u32_le.ensures)) lent)
+    rw (← c.as_bytes.ensures) ((c.put_array.ensures ⨟ c.put_u8.ensures ⨟ (λ h. c.put_u32_le.ensures)) lent)
