@@ -5,20 +5,16 @@ ghost use Rattle.std.specs.Prelude.{◌≡◌};
 ghost use Rattle.hns_p2p_rights.specs.Terms.{terms_of};
 ghost use Rattle.hns_p2p_admission.specs.Admission.{admitted};
 
-use hns_refusals::{Checked, Refusal};
+use hns_refusals::Refusal;
 
 // Whether a payload of that type and length may be read under terms: 21, 22, 5.
-#[tactic(auto, using(crate::proofs::Tests::too_large, crate::proofs::Tests::passed))]
-pub fn admit(terms: &[u64], packet_type: u8, length: usize) -> Checked
+#[tactic(auto, using(crate::proofs::Tests::not_sent, crate::proofs::Tests::too_large, crate::proofs::Tests::passed))]
+pub fn admit(terms: &[u64], packet_type: u8, length: usize) -> Result<(), Refusal>
     ensures { result ≡ admitted (terms_of terms.now) packet_type length }
 {
-    match hns_p2p_rights::may_send(terms, packet_type) {
-        Checked::Refused(why) => Checked::Refused(why),
-        Checked::Passed => {
-            if 8_000_000 < length {
-                return Checked::Refused(Refusal::payload_too_large(length));
-            }
-            Checked::Passed
-        }
+    hns_p2p_rights::may_send(terms, packet_type)?;
+    if 8_000_000 < length {
+        return Err(Refusal::PayloadTooLarge { actual: length });
     }
+    Ok(())
 }

@@ -2,15 +2,17 @@
 //! the fields is not tested here.
 #![tactic(auto)]
 
-ghost use Rattle.std.specs.Prelude.{◌≡◌, [], ◌∷◌};
-ghost use Rattle.hns_encoding.specs.Bytes.{choose, left, end_at};
+ghost use Rattle.std.specs.Prelude.{◌≡◌};
+ghost use Rattle.hns_encoding.specs.Bytes.{left, end_at};
 ghost use Rattle.hns_encoding.specs.Format.{sum, short};
+ghost use Rattle.hns_encoding.specs.Answers.{finished_of};
 ghost use Rattle.hns_p2p_types.specs.Packets.{signed, fields_of, address_in};
 ghost use Rattle.hns_p2p_blocks.specs.Blocks.{gate};
-ghost use Rattle.hns_p2p_blocks.specs.Helpers.{block_end};
+ghost use Rattle.hns_p2p_blocks.specs.Helpers.{block_end, eight_in};
 
+use hns_encoding::{pick, remaining, u8_at, u16_at, u32_at, u64_at};
 use hns_p2p_types::{
-    GetProofPacket, Hash, NET_ADDRESS_SIZE, NetAddress, Packet, RejectPacket, Span, VersionPacket,
+    GetProofPacket, NET_ADDRESS_SIZE, NetAddress, Packet, RejectPacket, Span, VersionPacket,
 };
 use hns_refusals::Refusal;
 
@@ -18,176 +20,156 @@ use hns_refusals::Refusal;
 pub fn ends_in(payload: &[u8], widths: &[usize], at: usize) -> Refusal
     ensures { result ≡ short widths.now at (left payload.now at) }
 {
-    let mut i = 0;
     let mut place = at;
-    let mut left = hns_encoding::remaining(payload, at);
-    while i < widths.len() {
-        let width = widths[i];
+    let mut left = remaining(payload, at);
+    for &width in widths {
         if left < width {
-            return Refusal::unexpected_end(place, width - left);
+            return Refusal::UnexpectedEnd {
+                offset: place,
+                missing: width - left,
+            };
         }
         place += width;
         left -= width;
-        i += 1;
     }
-    Refusal::unexpected_end(place, 0)
+    Refusal::UnexpectedEnd {
+        offset: place,
+        missing: 0,
+    }
 }
 
 // A packet whose fields end at a place: no byte may be left.
 #[tactic(auto, using(crate::proofs::Ends::closed, crate::proofs::Ends::not_closed))]
-pub fn close(payload: &[u8], at: usize, packet: Packet) -> Packet
+pub fn close(payload: &[u8], at: usize, packet: Packet) -> Result<Packet, Refusal>
     ensures { result ≡ gate (end_at payload.now at) packet }
 {
-    let there = hns_encoding::remaining(payload, at);
-    if there == 0 {
-        packet
-    } else {
-        Packet::Refused(Refusal::trailing_bytes(there))
-    }
+    hns_encoding::finish(payload, at)?;
+    Ok(packet)
 }
 
-// A packet whose fields are reads of these widths.
-fn block(payload: &[u8], widths: &[usize], size: usize, packet: Packet) -> Packet
+// Whether a payload is reads of these widths, and no byte after them. Their sum is given, so that none is made at run time.
+#[tactic(auto, using(crate::proofs::Ends::block_ends, crate::proofs::Ends::block_finishes))]
+fn block(payload: &[u8], widths: &[usize], size: usize) -> Result<(), Refusal>
     requires { size ≡ sum widths.now }
-    ensures { result ≡ gate (block_end widths.now payload.now) packet }
+    ensures { result ≡ finished_of (block_end widths.now payload.now) }
 {
-    let there = payload.len();
-    if there < size {
-        Packet::Refused(ends_in(payload, widths, 0))
-    } else {
-        close(payload, size, packet)
+    if payload.len() < size {
+        return Err(ends_in(payload, widths, 0));
     }
+    hns_encoding::finish(payload, size)
 }
 
-// A packet that is one number of eight bytes.
-fn eight(payload: &[u8], packet: Packet) -> Packet
-    ensures { result ≡ gate (block_end (8 ∷ []) payload.now) packet }
+// The number that a payload of eight bytes is.
+#[tactic(auto, using(crate::proofs::Packets::eight_refused, crate::proofs::Packets::eight_read))]
+fn eight(payload: &[u8]) -> Result<u64, Refusal>
+    ensures { result ≡ eight_in payload.now }
 {
-    block(payload, &[8], 8, packet)
+    block(payload, &[8], 8)?;
+    Ok(u64_at(payload, 0))
 }
 
-pub fn read_ping_fields(payload: &[u8]) -> Packet
+// A ping and a pong differ in their constructor alone: a `pub fn` that takes it would have to require something of it.
+#[tactic(auto, using(crate::proofs::Packets::ping_refused, crate::proofs::Packets::ping_read))]
+pub fn read_ping_fields(payload: &[u8]) -> Result<Packet, Refusal>
     ensures { result ≡ fields_of 2 payload.now }
 {
-    eight(payload, Packet::Ping(hns_encoding::u64_at(payload, 0)))
+    Ok(Packet::Ping(eight(payload)?))
 }
 
-pub fn read_pong_fields(payload: &[u8]) -> Packet
+#[tactic(auto, using(crate::proofs::Packets::pong_refused, crate::proofs::Packets::pong_read))]
+pub fn read_pong_fields(payload: &[u8]) -> Result<Packet, Refusal>
     ensures { result ≡ fields_of 3 payload.now }
 {
-    eight(payload, Packet::Pong(hns_encoding::u64_at(payload, 0)))
+    Ok(Packet::Pong(eight(payload)?))
 }
 
-// The number that two's complement has as these bits.
+// The number that two's complement has as these bits: the library's conversion, by the document's definition.
+#[tactic(auto, using(crate::proofs::Signed::signed_same))]
 pub fn signed_of(v: u64) -> i64
     ensures { result ≡ signed v }
 {
-    if v < 9_223_372_036_854_775_808 {
-        v as i64
-    } else {
-        let below = (18_446_744_073_709_551_615 - v) as i64;
-        -1 - below
-    }
+    v.cast_signed()
 }
 
-pub fn read_feefilter_fields(payload: &[u8]) -> Packet
+#[tactic(auto, using(crate::proofs::Packets::feefilter_refused, crate::proofs::Packets::feefilter_read))]
+pub fn read_feefilter_fields(payload: &[u8]) -> Result<Packet, Refusal>
     ensures { result ≡ fields_of 21 payload.now }
 {
-    let rate = signed_of(hns_encoding::u64_at(payload, 0));
-    eight(payload, Packet::FeeFilter(rate))
+    Ok(Packet::FeeFilter(signed_of(eight(payload)?)))
 }
 
-pub fn read_sendcmpct_fields(payload: &[u8]) -> Packet
+#[tactic(auto, using(crate::proofs::Packets::sendcmpct_refused, crate::proofs::Packets::sendcmpct_read))]
+pub fn read_sendcmpct_fields(payload: &[u8]) -> Result<Packet, Refusal>
     ensures { result ≡ fields_of 22 payload.now }
 {
-    let mode = hns_encoding::u8_at(payload, 0);
-    let version = hns_encoding::u64_at(payload, 1);
-    block(payload, &[1, 8], 9, Packet::SendCmpct { mode, version })
+    block(payload, &[1, 8], 9)?;
+    Ok(Packet::SendCmpct {
+        mode: u8_at(payload, 0),
+        version: u64_at(payload, 1),
+    })
 }
 
-pub fn read_getproof_fields(payload: &[u8]) -> Packet
+#[tactic(auto, using(crate::proofs::Packets::getproof_refused, crate::proofs::Packets::getproof_read))]
+pub fn read_getproof_fields(payload: &[u8]) -> Result<Packet, Refusal>
     ensures { result ≡ fields_of 26 payload.now }
 {
-    let packet = GetProofPacket { root: 0, key: 32 };
-    block(payload, &[32, 32], 64, Packet::GetProof(packet))
-}
-
-// One of two numbers: the halves of an ip are chosen one by one.
-fn pick(test: bool, a: u64, b: u64) -> u64
-    ensures { result ≡ choose test a b }
-{
-    if test { a } else { b }
+    block(payload, &[32, 32], 64)?;
+    Ok(Packet::GetProof(GetProofPacket { root: 0, key: 32 }))
 }
 
 // The address at a place; zeros where it is not all there. Its host kind is its byte 16.
+#[tactic(auto, using(crate::proofs::Addresses::address_short, crate::proofs::Addresses::address_there))]
 pub fn address_at(payload: &[u8], at: usize) -> NetAddress
     ensures { result ≡ address_in payload.now at }
 {
-    if hns_encoding::remaining(payload, at) < NET_ADDRESS_SIZE {
-        return NetAddress {
-            time: 0,
-            services: 0,
-            ip_first: 0,
-            ip_last: 0,
-            port: 0,
-            key: 0,
-        };
+    if remaining(payload, at) < NET_ADDRESS_SIZE {
+        return NetAddress::default();
     }
-    let kept = hns_encoding::u8_at(payload, at + 16) == 0;
+    let kept = u8_at(payload, at + 16) == 0;
     NetAddress {
-        time: hns_encoding::u64_at(payload, at),
-        services: hns_encoding::u32_at(payload, at + 8) as u64,
-        ip_first: pick(kept, hns_encoding::u64_at(payload, at + 17), 0),
-        ip_last: pick(kept, hns_encoding::u64_at(payload, at + 25), 0),
-        port: hns_encoding::u16_at(payload, at + 53),
+        time: u64_at(payload, at),
+        services: u64::from(u32_at(payload, at + 8)),
+        ip_first: pick(kept, u64_at(payload, at + 17), 0),
+        ip_last: pick(kept, u64_at(payload, at + 25), 0),
+        port: u16_at(payload, at + 53),
         key: at + 55,
     }
 }
 
-pub fn read_version_fields(payload: &[u8]) -> Packet
+#[tactic(auto, using(crate::proofs::Packets::version_refused, crate::proofs::Packets::version_read))]
+pub fn read_version_fields(payload: &[u8]) -> Result<Packet, Refusal>
     ensures { result ≡ fields_of 0 payload.now }
 {
-    let length = hns_encoding::u8_at(payload, 116) as usize;
-    let relay = hns_encoding::u8_at(payload, 121 + length);
-    let version = VersionPacket {
-        version: hns_encoding::u32_at(payload, 0),
-        services: hns_encoding::u32_at(payload, 4) as u64,
-        time: hns_encoding::u64_at(payload, 12),
-        remote: address_at(payload, 20),
-        nonce: hns_encoding::u64_at(payload, 108),
-        agent: Span { start: 117, length },
-        height: hns_encoding::u32_at(payload, 117 + length),
-        no_relay: relay == 1,
-    };
+    let length = usize::from(u8_at(payload, 116));
     let widths = [4, 4, 4, 8, 8, 4, 4, 1, 36, 2, 33, 8, 1, length, 4, 1];
-    block(payload, &widths, 122 + length, Packet::Version(version))
+    block(payload, &widths, 122 + length)?;
+    Ok(Packet::Version(VersionPacket {
+        version: u32_at(payload, 0),
+        services: u64::from(u32_at(payload, 4)),
+        time: u64_at(payload, 12),
+        remote: address_at(payload, 20),
+        nonce: u64_at(payload, 108),
+        agent: Span { start: 117, length },
+        height: u32_at(payload, 117 + length),
+        no_relay: u8_at(payload, 121 + length) == 1,
+    }))
 }
 
 // A reject with its hash, or without, by its type.
-pub fn read_reject_fields(payload: &[u8]) -> Packet
+#[tactic(auto, using(crate::proofs::Packets::reject_refused, crate::proofs::Packets::reject_read))]
+pub fn read_reject_fields(payload: &[u8]) -> Result<Packet, Refusal>
     ensures { result ≡ fields_of 15 payload.now }
 {
-    let message = hns_encoding::u8_at(payload, 0);
-    let code = hns_encoding::u8_at(payload, 1);
-    let length = hns_encoding::u8_at(payload, 2) as usize;
-    let reason = Span { start: 3, length };
-    if hns_p2p_types::carries_reject_hash(message) {
-        let hash = Hash::At(3 + length);
-        let reject = RejectPacket {
-            message,
-            code,
-            reason,
-            hash,
-        };
-        let widths = [1, 1, 1, length, 32];
-        return block(payload, &widths, 35 + length, Packet::Reject(reject));
-    }
-    let reject = RejectPacket {
+    let message = u8_at(payload, 0);
+    let length = usize::from(u8_at(payload, 2));
+    let carried = hns_p2p_types::carries_reject_hash(message);
+    let hash_length = if carried { 32 } else { 0 };
+    let widths = [1, 1, 1, length, hash_length];
+    block(payload, &widths, 3 + length + hash_length)?;
+    Ok(Packet::Reject(RejectPacket {
         message,
-        code,
-        reason,
-        hash: Hash::Absent,
-    };
-    let widths = [1, 1, 1, length];
-    block(payload, &widths, 3 + length, Packet::Reject(reject))
+        code: u8_at(payload, 1),
+        reason: Span { start: 3, length },
+        hash: carried.then_some(3 + length),
+    }))
 }

@@ -1,10 +1,10 @@
 -- The length card is right, row by row, and no other is.
 use Prim.Native.Nat.{ℕ, zero, suc, ◌+◌, ◌≤◌}
-use mathlib.Core.Path.{◌≡◌, refl}
+use mathlib.Core.Path.{◌≡◌, refl, sym}
 use mathlib.Core.List.{List, [], ◌∷◌}
 use mathlib.Core.Bool.{Bool, true, false}
 use native.Mathlib.Omega.{arith}
-use lib.ListN.{length, get_or, replicate, length-replicate}
+use lib.ListN.{length, get_or, get_or-eq_default, replicate, length-replicate}
 use Rattle.hns_refusals.specs.Limits.{max_payload, block_header_size}
 use Rattle.hns_refusals.specs.Refusals.{agent_field, reason_field}
 use Rattle.hns_encoding.specs.Bytes.{choose, to_end}
@@ -25,6 +25,11 @@ use Rattle.hns_p2p_types.specs.Packets.{◌&◌, raw_bytes}
 use Rattle.hns_p2p_card.specs.declared.Row.{Row}
 use Rattle.hns_p2p_card.specs.Card.{row, exactly, any_bytes, rows, card_row, Reads, Occurs, Right, Card, Unique, Only}
 use Rattle.hns_p2p_card.proofs.Spans.{Writes, Within, Spans, fixed, text_spans, counted_spans, indexes_spans, tagged_spans, ◌then◌}
+
+-- a type past the table is raw bytes
+pub past_rows : (t : ℕ) → 30 ≤ t → any_bytes ≡ card_row t
+unfolding card_row rows
+past_rows t h = sym (get_or-eq_default rows any_bytes h)
 
 -- ---- what reads by a layout
 

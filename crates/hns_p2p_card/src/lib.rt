@@ -4,7 +4,7 @@
 ghost use Rattle.std.specs.Prelude.{◌≡◌};
 ghost use Rattle.hns_p2p_card.specs.Card.{card_row};
 
-#[derive(Clone, Copy)]
+#[derive(Clone, Copy, Debug, PartialEq, Eq)]
 pub struct Row {
     pub least: usize,
     pub greatest: usize,
@@ -107,10 +107,12 @@ const CARD: [Row; 30] = [
 ];
 
 // A type past the table is raw bytes.
+#[tactic(auto, unfolding(crate::specs::Card::card_row, crate::specs::Card::rows))]
 pub fn length_card(packet_type: u8) -> Row
     ensures { result ≡ card_row packet_type }
 {
-    let place = packet_type as usize;
-    let in_table = place < 30;
-    if in_table { CARD[place] } else { RAW }
+    match CARD.get(usize::from(packet_type)) {
+        Some(row) => *row,
+        None => RAW,
+    }
 }

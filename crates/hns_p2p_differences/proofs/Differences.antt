@@ -1,9 +1,9 @@
 -- Differences of one byte and of three as they stand, sixteen of them at once, and the list as it is passed. Assumes nothing.
-use Prim.Native.Nat.{ℕ, zero, suc, ◌+◌, ◌-◌, ◌*◌, ◌≤◌, ◌<◌}
-use mathlib.Core.Path.{◌≡◌, refl, sym, ap, ◌∙◌, subst}
+use Prim.Native.Nat.{ℕ, suc, ◌+◌, ◌-◌, ◌*◌, ◌≤◌, ◌<◌}
+use mathlib.Core.Path.{◌≡◌, refl, sym, ap, ◌∙◌}
 use mathlib.Core.List.{List}
+use Rattle.std.specs.Prelude.{Result, Ok, Err}
 use mathlib.Core.Bool.{Bool, true, false, ◌&&◌}
-use mathlib.Core.Logic.{⊎_elim}
 use native.Mathlib.Omega.{arith}
 use lib.ListN.{length, get_or}
 use lib.Dec.{leb, ltb, eqb}
@@ -14,15 +14,12 @@ use Rattle.hns_refusals.specs.Refusals.{index_over, index_field}
 use Rattle.hns_encoding.specs.Bytes.{le, part, got, le_at, number_at}
 use Rattle.hns_encoding.specs.Compact.{wide_at, compact_from, compact_at, count_at}
 use Rattle.hns_encoding.specs.Format.{indexes_from}
-use Rattle.hns_encoding.specs.Answers.{number_of}
-use Rattle.hns_encoding.specs.declared.Number.{Number}
-use Rattle.hns_encoding.specs.declared.Number.TheVariants as N
-use Rattle.hns_encoding.proofs.Numbers.{lt_or_ge, le_part_add}
+use Rattle.hns_encoding.specs.Answers.{result_of}
+use Rattle.hns_encoding.proofs.Numbers.{le_part_add}
 use Rattle.hns_encoding.proofs.Outcomes.{bytes_fits}
 use Rattle.hns_encoding.proofs.Reading.{number_there, byte_number, value_read}
-use Rattle.hns_p2p_differences.specs.declared.Passed.TheVariants as X
 use Rattle.hns_p2p_differences.specs.Passing.{passed_of}
-use Rattle.hns_p2p_differences.specs.Helpers.{passed_after, sum_at, Alone, RunSum, Grouped, NextGroup}
+use Rattle.hns_p2p_differences.specs.Helpers.{passed_after, Grouped, NextGroup}
 use Rattle.hns_p2p_differences.proofs.Passing.{passed_first, index_refused, if_index_over, index_next, difference_most, indexes_end}
 
 -- ---- one difference
@@ -52,89 +49,16 @@ three_bytes s p h b {low} {high} el eh least most =
 -- it is passed where its index is not too great
 one_passed : (k base : ℕ) (s : List ℕ) (p : ℕ) {d next : ℕ} → count_at max_index index_field s p ≡ got d next → base + d ≤ max_index
     → passed_after (base - 1) (indexes_from (suc k) base s p) ≡ passed_after (base + d + 1 - 1) (indexes_from k (base + d + 1) s next)
-unfolding number_of
+unfolding result_of
 one_passed k base s p {d} {next} e h =
     let last : base + d + 1 - 1 ≡ base + d = omega arith in
-    index_next k (base - 1) base s p refl (ap number_of e) h ∙ ap (λ (i : ℕ). passed_after i (indexes_from k (base + d + 1) s next)) (sym last)
+    index_next k (base - 1) base s p refl (ap result_of e) h ∙ ap (λ (i : ℕ). passed_after i (indexes_from k (base + d + 1) s next)) (sym last)
 
--- ---- n of one byte each
-
-sum_more : (n : ℕ) (s : List ℕ) (p : ℕ) → sum_at (suc n) s p ≡ sum_at n s p + get_or s (p + n) 0
-unfolding sum_at
-sum_more zero s p = let here : p + 0 ≡ p = omega arith in rw here (omega arith)
-sum_more (suc n) s p =
-    let ih = sum_more n s (p + 1) in
-    let place : p + 1 + n ≡ p + suc n = omega arith in
-    omega (arith, rw place at ih)
-
--- they are passed where the last index is not too great
-alone_passed : (n k base : ℕ) (s : List ℕ) (p : ℕ) → Alone n s p → base + sum_at n s p + n ≤ max_index + 1
-    → passed_after (base - 1) (indexes_from (n + k) base s p) ≡ passed_after (base + sum_at n s p + n - 1) (indexes_from k (base + sum_at n s p + n) s (p + n))
-unfolding sum_at
-alone_passed zero k base s p a h =
-    let same : base + 0 + 0 ≡ base = omega arith in
-    let here : p + 0 ≡ p = omega arith in
-    let all : 0 + k ≡ k = omega arith in
-    rw (same, here, all)
-alone_passed (suc n) k base s p a h =
-    let d : ℕ = get_or s p 0 in
-    let place : p + 0 ≡ p = omega arith in
-    let small : get_or s p 0 < 253 = rw place at (a.each 0 (omega arith)) in
-    let rest : Alone n s (p + 1) = record { inside = omega (arith, a.inside); each = λ j b. (let next : p + suc j ≡ p + 1 + j = omega arith in rw next at (a.each (suc j) (omega arith))) } in
-    let many : suc n + k ≡ suc (n + k) = omega arith in
-    let least : base + d + 1 + sum_at n s (p + 1) + n ≡ base + (d + sum_at n s (p + 1)) + suc n = omega arith in
-    let end : p + 1 + n ≡ p + suc n = omega arith in
-    rw many (one_passed (n + k) base s p (one_byte s p (omega (arith, a.inside)) small) (omega arith) ∙ (alone_passed n k (base + d + 1) s (p + 1) rest (omega arith) ∙ rw (least, end)))
-
--- ---- 16 of them
-
--- i are looked at
-pub record RunTo (s : List ℕ) (p sum : ℕ) (alone : Bool) (i : ℕ) : Type 0 where
-  pub some : i ≤ 16
-  pub most : sum ≤ i * 255
-  pub each : alone ≡ true → (j : ℕ) → j < i → get_or s (p + j) 0 < 253
-  pub is : sum ≡ sum_at i s p
-
-pub run_start : (s : List ℕ) (p : ℕ) → RunTo s p 0 true 0
-unfolding sum_at
-run_start s p = record { some = omega arith; most = omega arith; each = λ t j b. absurd (omega arith); is = refl }
+-- ---- sixteen at once
 
 pub both : (a b : Bool) → (a && b) ≡ true → (a ≡ true) × (b ≡ true)
 both true b e = (refl, e)
 both false b e = let z : false ≡ true = e in (z, cc)
-
-module _ {s : List ℕ} {p sum : ℕ} {alone : Bool} {i : ℕ} (t : RunTo s p sum alone i) where
-  pub run_turn : i < 16 → {byte : ℕ} → byte ≡ get_or s (p + i) 0 → byte < 256 → RunTo s p (sum + byte) (alone && ltb byte 253) (i + 1)
-  run_turn h {byte} e b =
-      let one : i + 1 ≡ suc i = omega arith in
-      record {
-        some = omega arith;
-        most = omega (arith, t.most);
-        each = λ k j c. (let q = both alone (ltb byte 253) k in ⊎_elim (λ x. t.each q.0 j x) (λ x. let here : j ≡ i = omega arith in rw here (subst (λ (x : ℕ). x < 253) e (ltb-true byte 253 q.1))) (lt_or_ge j i));
-        is = rw one (omega (arith, t.is, sum_more i s p));
-      }
-
-  pub run_alone : 16 ≤ i → p + 16 ≤ length s → alone ≡ true → RunSum s p sum
-  run_alone h inside k =
-      let all : i ≡ 16 = omega (arith, t.some) in
-      record {
-        most = omega (arith, t.most, t.some);
-        alone = λ x. record { inside = inside; each = λ j b. t.each k j (omega arith) };
-        sum = λ x. t.is ∙ ap (λ (n : ℕ). sum_at n s p) all;
-      }
-
-pub no_run : (s : List ℕ) (p : ℕ) → RunSum s p 65536
-no_run s p = record { most = omega arith; alone = λ x. absurd (omega arith); sum = λ x. absurd (omega arith) }
-
--- ---- sixteen at once
-
-pub no_group : (s : List ℕ) (base p next : ℕ) → Grouped s base p 65537 next
-no_group s base p next h = absurd (omega arith)
-
-pub run_group : {s : List ℕ} {p sum : ℕ} (base : ℕ) → RunSum s p sum → sum < 65536 → Grouped s base p (base + sum + 16) (p + 16)
-run_group {s} {p} {sum} base r low h k =
-    let is : sum ≡ sum_at 16 s p = r.sum low in
-    rw is (alone_passed 16 k base s p (r.alone low) (omega (arith, is)))
 
 -- i are walked
 pub record WalkTo (s : List ℕ) (base p least next : ℕ) (good : Bool) (i : ℕ) : Type 0 where
@@ -146,15 +70,18 @@ pub record WalkTo (s : List ℕ) (base p least next : ℕ) (good : Bool) (i : �
 pub walk_start : (s : List ℕ) (base p : ℕ) → WalkTo s base p base p true 0
 walk_start s base p = record { some = omega arith; place = omega arith; high = omega arith; rest = λ t h k. refl }
 
+pub run_start : (s : List ℕ) (base p : ℕ) → WalkTo s base p base (p + 0) true 0
+run_start s base p = let here : p + 0 ≡ p = omega arith in rw here (walk_start s base p)
+
 module _ {s : List ℕ} {base p least next : ℕ} {good : Bool} {i : ℕ} (t : WalkTo s base p least next good i) where
   walk_turn : i < 16 → {d after : ℕ} {good' : Bool} → d ≤ max_index → after ≤ next + 3 → (good' ≡ true → (good ≡ true) × (count_at max_index index_field s next ≡ got d after))
-      → WalkTo s base p (least + d + 1) after good' (i + 1)
+      → WalkTo s base p (least + (d + 1)) after good' (i + 1)
   walk_turn h {d} small near f =
       record {
         some = omega arith;
         place = omega (arith, t.place);
         high = omega (arith, t.high);
-        rest = λ q low k. (let g = f q in let more : 16 - i + k ≡ suc (16 - (i + 1) + k) = omega arith in t.rest g.0 (omega arith) k ∙ (ap (λ (n : ℕ). passed_after (least - 1) (indexes_from n least s next)) more ∙ one_passed (16 - (i + 1) + k) least s next g.1 (omega arith)));
+        rest = λ q low k. (let g = f q in let more : 16 - i + k ≡ suc (16 - (i + 1) + k) = omega arith in let one : least + (d + 1) ≡ least + d + 1 = omega arith in rw one (t.rest g.0 (omega arith) k ∙ (ap (λ (n : ℕ). passed_after (least - 1) (indexes_from n least s next)) more ∙ one_passed (16 - (i + 1) + k) least s next g.1 (omega arith))));
       }
 
   module _ (h : i < 16) (inside : p + 48 ≤ length s) where
@@ -162,22 +89,38 @@ module _ {s : List ℕ} {base p least next : ℕ} {good : Bool} {i : ℕ} (t : W
     walk_inside = omega (arith, t.place)
 
     module _ {head : ℕ} (e : head ≡ get_or s next 0) where
-      pub walk_one : head < 253 → WalkTo s base p (least + head + 1) (next + 1) good (i + 1)
+      pub walk_one : head < 253 → WalkTo s base p (least + (head + 1)) (next + 1) good (i + 1)
       walk_one b = walk_turn h (omega arith) (omega arith) (λ q. (q, rw e (one_byte s next (omega (arith, walk_inside)) (omega arith))))
 
-      pub walk_three : {low high : ℕ} → low ≡ get_or s (next + 1) 0 → high ≡ get_or s (next + 2) 0 → low < 256 → high < 256 → WalkTo s base p (least + (low + 256 * high) + 1) (next + 3) ((good && eqb head 253) && leb 253 (low + 256 * high)) (i + 1)
+      pub walk_three : {low high : ℕ} → low ≡ get_or s (next + 1) 0 → high ≡ get_or s (next + 2) 0 → low < 256 → high < 256 → WalkTo s base p (least + (low + 256 * high + 1)) (next + 3) (good && (eqb head 253 && leb 253 (low + 256 * high))) (i + 1)
       walk_three {low} {high} el eh bl bh = walk_turn h (omega arith) (omega arith) said
         where
-          said : ((good && eqb head 253) && leb 253 (low + 256 * high)) ≡ true → (good ≡ true) × (count_at max_index index_field s next ≡ got (low + 256 * high) (next + 3))
+          said : (good && (eqb head 253 && leb 253 (low + 256 * high))) ≡ true → (good ≡ true) × (count_at max_index index_field s next ≡ got (low + 256 * high) (next + 3))
           said q =
-              let last = both (good && eqb head 253) (leb 253 (low + 256 * high)) q in
-              let two = both good (eqb head 253) last.0 in
-              (two.0, three_bytes s next walk_inside (sym e ∙ eqb-true head 253 two.1) el eh (leb-true 253 (low + 256 * high) last.1) (omega arith))
+              let first = both good (eqb head 253 && leb 253 (low + 256 * high)) q in
+              let two = both (eqb head 253) (leb 253 (low + 256 * high)) first.1 in
+              (first.0, three_bytes s next walk_inside (sym e ∙ eqb-true head 253 two.0) el eh (leb-true 253 (low + 256 * high) two.1) (omega arith))
 
-  pub walk_end : 16 ≤ i → good ≡ true → Grouped s base p least next
-  walk_end h q low k =
-      let all : 16 - i + k ≡ k = omega arith in
-      t.rest q low k ∙ ap (λ (n : ℕ). passed_after (least - 1) (indexes_from n least s next)) all
+  pub walk_end : 16 ≤ i → (good && leb least (max_index + 1)) ≡ true → Grouped s base p least next
+  walk_end h q =
+      let two = both good (leb least (max_index + 1)) q in
+      let low : least ≤ max_index + 1 = leb-true least (max_index + 1) two.1 in
+      record { low = low; rest = λ k. (let all : 16 - i + k ≡ k = omega arith in t.rest two.0 low k ∙ ap (λ (n : ℕ). passed_after (least - 1) (indexes_from n least s next)) all) }
+
+-- bytes at places one after another, which are all looked at
+module _ {s : List ℕ} {base p least : ℕ} {alone : Bool} {i : ℕ} (t : WalkTo s base p least (p + i) alone i) where
+  pub run_turn : i < 16 → p + 16 ≤ length s → {head : ℕ} → head ≡ get_or s (p + i) 0 → head < 256 → WalkTo s base p (least + (head + 1)) (p + (i + 1)) (alone && ltb head 253) (i + 1)
+  run_turn h inside {head} e b =
+      let next : p + i + 1 ≡ p + (i + 1) = omega arith in
+      rw (← next) (walk_turn t h (omega arith) (omega arith) said)
+    where
+      said : (alone && ltb head 253) ≡ true → (alone ≡ true) × (count_at max_index index_field s (p + i) ≡ got head (p + i + 1))
+      said q =
+          let two = both alone (ltb head 253) q in
+          (two.0, rw e (one_byte s (p + i) (omega arith) (rw e at (ltb-true head 253 two.1))))
+
+  pub run_end : 16 ≤ i → (alone && leb least (max_index + 1)) ≡ true → Grouped s base p least (p + 16)
+  run_end h q = let all : i ≡ 16 = omega (arith, t.some) in rw all at (walk_end t h q)
 
 -- ---- the list
 
@@ -194,27 +137,27 @@ pass_start count s first =
     record { some = omega arith; low = omega arith; whole = rw (all, none) (passed_first (indexes_from count 0 s first)) }
 
 module _ {count : ℕ} {s : List ℕ} {first i base next : ℕ} (t : PassedTo count s first i base next) where
-  pub pass_group : {least after : ℕ} → NextGroup s base next i count least after → least ≤ max_index + 1 → PassedTo count s first (i + 16) least after
-  pass_group r h =
-      let left = r.left h in
+  pub pass_group : {least after : ℕ} → NextGroup s base next i count least after → PassedTo count s first (i + 16) least after
+  pass_group r =
+      let left = r.left in
       let many : count - i ≡ 16 + (count - (i + 16)) = omega arith in
-      record { some = left; low = h; whole = t.whole ∙ rw many (r.grouped h (count - (i + 16))) }
+      record { some = left; low = r.grouped.low; whole = t.whole ∙ rw many (r.grouped.rest (count - (i + 16))) }
 
-  module _ (h : i < count) {read : Number} (e : read ≡ number_of (count_at max_index index_field s next)) where
+  module _ (h : i < count) {read : Result (ℕ × ℕ) Refusal} (e : read ≡ result_of (count_at max_index index_field s next)) where
     here : passed_of (indexes_from count 0 s first) ≡ passed_after (base - 1) (indexes_from (suc (count - (i + 1))) base s next)
     here =
         let more : count - i ≡ suc (count - (i + 1)) = omega arith in
         t.whole ∙ ap (λ (k : ℕ). passed_after (base - 1) (indexes_from k base s next)) more
 
-    pub pass_refused : {r : Refusal} → read ≡ N.Refused r → X.Refused r ≡ passed_of (indexes_from count 0 s first)
+    pub pass_refused : {r : Refusal} → read ≡ Err r → Err r ≡ passed_of (indexes_from count 0 s first)
     pass_refused g = sym (here ∙ index_refused (count - (i + 1)) (base - 1) base s next e g)
 
-    module _ {d after : ℕ} (g : read ≡ N.Value d after) where
+    module _ {d after : ℕ} (g : read ≡ Ok (d, after)) where
       pub pass_most : d ≤ max_index
       pass_most = difference_most 0 0 0 s next e g
 
-      pub pass_over : max_index < base + d → {r : Refusal} → r ≡ index_over → X.Refused r ≡ passed_of (indexes_from count 0 s first)
-      pass_over over q = ap X.Refused q ∙ sym (here ∙ if_index_over (count - (i + 1)) (base - 1) base s next e g over)
+      pub pass_over : max_index < base + d → Err index_over ≡ passed_of (indexes_from count 0 s first)
+      pass_over over = sym (here ∙ if_index_over (count - (i + 1)) (base - 1) base s next e g over)
 
       pub pass_next : base + d ≤ max_index → PassedTo count s first (i + 1) (base + d + 1) after
       pass_next small =
@@ -224,7 +167,7 @@ module _ {count : ℕ} {s : List ℕ} {first i base next : ℕ} (t : PassedTo co
             whole = here ∙ one_passed (count - (i + 1)) base s next (value_read (count_at max_index index_field s next) e g) small;
           }
 
-  pub pass_end : count ≤ i → {last : ℕ} → last ≡ base - 1 → X.To next last ≡ passed_of (indexes_from count 0 s first)
+  pub pass_end : count ≤ i → {last : ℕ} → last ≡ base - 1 → Ok (record { next = next; last = last }) ≡ passed_of (indexes_from count 0 s first)
   pass_end h q =
       let none : count - i ≡ 0 = omega arith in
-      ap (X.To next) q ∙ sym (t.whole ∙ (ap (λ (k : ℕ). passed_after (base - 1) (indexes_from k base s next)) none ∙ indexes_end (base - 1) base s next))
+      ap (λ (n : ℕ). Ok (record { next = next; last = n })) q ∙ sym (t.whole ∙ (ap (λ (k : ℕ). passed_after (base - 1) (indexes_from k base s next)) none ∙ indexes_end (base - 1) base s next))

@@ -1,5 +1,5 @@
 -- Indexes to an output's front: what is stored and what is left are the whole list. Assumes nothing.
-use Prim.Native.Nat.{ℕ, suc, ◌+◌, ◌-◌, ◌*◌, ◌≤◌, ◌<◌}
+use Prim.Native.Nat.{ℕ, suc, ◌+◌, ◌-◌, ◌≤◌, ◌<◌}
 use mathlib.Core.Path.{◌≡◌, refl, sym, ap, ◌∙◌, subst}
 use mathlib.Core.List.{List, ◌∷◌}
 use native.Mathlib.Omega.{arith}
@@ -17,19 +17,18 @@ use Rattle.hns_encoding.proofs.Outcomes.{after_got, choose_got, bytes_got, byte_
 use Rattle.hns_encoding.proofs.Puts.{splice_none, splice_cons}
 use Rattle.hns_encoding.proofs.Forms.{Wide, two, four, eight, wide_from, First as FirstByte, alone, leads, first}
 use Rattle.hns_encoding.proofs.Reading.{number_there}
-use Rattle.hns_p2p_differences.proofs.Differences.{one_byte, two_number}
+use Rattle.hns_p2p_differences.proofs.Differences.{one_byte}
 use Rattle.hns_p2p_types.specs.Protocol.{getblocktxn}
 use Rattle.hns_p2p_types.specs.declared.Items.{Items}
 use Rattle.hns_p2p_types.specs.declared.Listing.{Listing}
 use Rattle.hns_p2p_types.specs.declared.Listing.TheVariants as L
 use Rattle.hns_p2p_types.specs.declared.Packet.TheVariants as P
-use Rattle.hns_p2p_types.specs.declared.Stored.{Stored}
-use Rattle.hns_p2p_types.specs.declared.Stored.TheVariants as S
+use Rattle.std.specs.Prelude.{Result, Ok, Err}
 use Rattle.hns_p2p_types.specs.Packets.{items_at, row, rows, answered}
 use Rattle.hns_p2p_rights.specs.Terms.{Terms}
 use Rattle.hns_p2p_admission.specs.Reading.{read_under, packet_under}
 use Rattle.hns_p2p_admission.proofs.Admitted.{under_got}
-use Rattle.hns_p2p_items.specs.Listings.{list_in, listing_under, Indexed}
+use Rattle.hns_p2p_items.specs.Listings.{list_in, list_by, listing_under, Indexed}
 use Rattle.hns_p2p_items.proofs.Held.{indexed_there}
 use Rattle.hns_p2p_items.proofs.Items.{First, first_of}
 use Rattle.hns_p2p_indexes.specs.Indexes.{Answer, stored_by, request_under, stored_under}
@@ -67,25 +66,22 @@ module _ (s : List ℕ) (p : ℕ) (t : StepThere s p) where
   pub step_inside : p < length s
   step_inside = head_says.1
 
-  module _ {head : ℕ} (e : head ≡ get_or s p 0) where
-    pub step_one : head < 253 → count_at max_index index_field s p ≡ got head (p + 1)
-    step_one h = rw e (one_byte s p step_inside (omega arith))
+  pub step_one : {head : ℕ} → head ≡ get_or s p 0 → get_or s p 0 < 253 → count_at max_index index_field s p ≡ got head (p + 1)
+  step_one e h = rw e (one_byte s p step_inside h)
 
-    module _ (low : 253 ≤ head) (high : head < 256) where
-      after_head : (t.difference ≡ number_at 2 s (p + 1)) × (t.next ≡ p + 1 + 2) × (2 ≤ length s - (p + 1))
-      after_head = go (first (get_or s p 0) (omega arith))
-        where
-          go : FirstByte (get_or s p 0) → (t.difference ≡ number_at 2 s (p + 1)) × (t.next ≡ p + 1 + 2) × (2 ≤ length s - (p + 1))
-          go (alone h) = absurd (omega arith)
-          go (leads w) = two_after w s (p + 1) head_says.0 (count_got max_index index_field s p t.reads).1
+  module _ (low : 253 ≤ get_or s p 0) (high : get_or s p 0 < 256) where
+    after_head : (t.difference ≡ number_at 2 s (p + 1)) × (t.next ≡ p + 1 + 2) × (2 ≤ length s - (p + 1))
+    after_head = go (first (get_or s p 0) (omega arith))
+      where
+        go : FirstByte (get_or s p 0) → (t.difference ≡ number_at 2 s (p + 1)) × (t.next ≡ p + 1 + 2) × (2 ≤ length s - (p + 1))
+        go (alone h) = absurd (omega arith)
+        go (leads w) = two_after w s (p + 1) head_says.0 (count_got max_index index_field s p t.reads).1
 
-      pub step_more : p + 3 ≤ length s
-      step_more = omega (arith, after_head.2)
-
-      pub step_three : {x y : ℕ} → x ≡ get_or s (p + 1) 0 → y ≡ get_or s (p + 2) 0 → count_at max_index index_field s p ≡ got (x + 256 * y) (p + 3)
-      step_three ex ey =
-          let end : t.next ≡ p + 3 = omega (arith, after_head.1) in
-          t.reads ∙ rw (after_head.0 ∙ sym (two_number s p step_more ex ey), end)
+  pub step_two : 253 ≤ get_or s p 0 → get_or s p 0 < 256 → {v : ℕ} → v ≡ number_at 2 s (p + 1) → count_at max_index index_field s p ≡ got v (p + 3)
+  step_two low high e =
+      let after = after_head low high in
+      let end : t.next ≡ p + 3 = omega (arith, after.1) in
+      t.reads ∙ rw (after.0 ∙ sym e, end)
 
 -- ---- the loop
 
@@ -164,19 +160,19 @@ module _ {count : ℕ} {s : List ℕ} {first : ℕ} {o₀ o : List ℕ} {i base 
 -- ---- a payload
 
 -- the code's list of a getblocktxn payload
-abbrev Seen : List ℕ → Listing → Outcome (Value getblocktxn) → Type 0
-Seen s list (got v last) = (list ≡ L.Indexes (items_at 32 v.1)) × Indexed s (items_at 32 v.1) v.1
-Seen s list (stop r) = list ≡ L.Refused r
+abbrev Seen : List ℕ → Result Listing Refusal → Outcome (Value getblocktxn) → Type 0
+Seen s list (got v last) = (list ≡ Ok (L.Indexes (items_at 32 v.1))) × Indexed s (items_at 32 v.1) v.1
+Seen s list (stop r) = list ≡ Err r
 
 seen : (u : Terms) (s : List ℕ) → Bytes s → Seen s (listing_under u 24 s) (request_under u s)
 unfolding listing_under list_in packet_under request_under row rows
 seen u s bs = go (read_under u 24 s) refl
   where
-    go : (o : Outcome (Value getblocktxn)) → read_under u 24 s ≡ o → Seen s (list_in (answered (λ v. P.GetBlockTxn (record { block_hash = 0; indexes = items_at 32 v.1 })) o)) o
+    go : (o : Outcome (Value getblocktxn)) → read_under u 24 s ≡ o → Seen s (list_by (answered (λ v. P.GetBlockTxn (record { block_hash = 0; indexes = items_at 32 v.1 })) o)) o
     go (got v last) e = (refl, indexed_there s bs v (to_end_got (read getblocktxn) s (under_got u 24 s e).whole).0)
     go (stop r) e = refl
 
-refused_seen : (s : List ℕ) {list : Listing} {r : Refusal} (q : Outcome (Value getblocktxn)) → Seen s list q → list ≡ L.Refused r → q ≡ stop r
+refused_seen : (s : List ℕ) {list : Result Listing Refusal} {r : Refusal} (q : Outcome (Value getblocktxn)) → Seen s list q → list ≡ Err r → q ≡ stop r
 refused_seen s (got v last) x e = let a = x.0 in let z : ◌≡◌ {A = ℕ} 0 1 = cc in absurd (omega arith)
 refused_seen s {r = r} (stop p) x e = let same : p ≡ r = cc in ap stop same
 
@@ -188,60 +184,60 @@ record Read (s : List ℕ) (i : Items) (q : Outcome (Value getblocktxn)) : Type 
   many : i.count ≡ length value.1
   indexed : Indexed s i value.1
 
-indexes_seen : (s : List ℕ) {list : Listing} {i : Items} (q : Outcome (Value getblocktxn)) → Seen s list q → list ≡ L.Indexes i → Read s i q
+indexes_seen : (s : List ℕ) {list : Result Listing Refusal} {i : Items} (q : Outcome (Value getblocktxn)) → Seen s list q → list ≡ Ok (L.Indexes i) → Read s i q
 indexes_seen s {list} {i} (got v last) x e =
     let same : items_at 32 v.1 ≡ i = cc x.0 in
     subst (λ (j : Items). Read s j (got v last)) same (record { value = v; last = last; is = refl; many = refl; indexed = x.1 })
 indexes_seen s (stop r) x e = let z : ◌≡◌ {A = ℕ} 0 1 = cc in absurd (omega arith)
 
--- the list of a getblocktxn is an index list or a refusal
-never_other : (s : List ℕ) (list : Listing) (q : Outcome (Value getblocktxn)) → Seen s list q → ((i : Items) → list ≡ L.Indexes i → ⊥) → ((r : Refusal) → list ≡ L.Refused r → ⊥) → ⊥
-never_other s list (got v last) x q k = q _ x.0
-never_other s list (stop r) x q k = k r x
+-- a list that is read is an index list
+never_other : (s : List ℕ) (list : Listing) (q : Outcome (Value getblocktxn)) → Seen s (Ok list) q → ((i : Items) → list ≡ L.Indexes i → ⊥) → ⊥
+never_other s list (got v last) x q = q (items_at 32 v.1) (cc x.0)
+never_other s list (stop r) x q = let z : ◌≡◌ {A = ℕ} 0 1 = cc in absurd (omega arith)
 
 -- ---- the answers of `indexes`
 
 -- an answer and the output after it
-abbrev pub Answers : Terms → List ℕ → List ℕ → Stored → List ℕ → Type 0
+abbrev pub Answers : Terms → List ℕ → List ℕ → Result ℕ Refusal → List ℕ → Type 0
 Answers u s o answer output = (answer ≡ (stored_under u s o).answer) × (output ≡ (stored_under u s o).output)
 
-answers : {a : Stored} {o' : List ℕ} {x : Answer} → record { answer = a; output = o' } ≡ x → (a ≡ x.answer) × (o' ≡ x.output)
+answers : {a : Result ℕ Refusal} {o' : List ℕ} {x : Answer} → record { answer = a; output = o' } ≡ x → (a ≡ x.answer) × (o' ≡ x.output)
 answers e = (ap (λ (x : Answer). x.answer) e, ap (λ (x : Answer). x.output) e)
 
 module _ (o : List ℕ) (v : Value getblocktxn) (last n : ℕ) (many : n ≡ length v.1) where
-  short_by : length o < n → {q : Refusal} → q ≡ output_short n → record { answer = S.Refused q; output = o } ≡ stored_by (got v last) o
+  short_by : length o < n → {q : Refusal} → q ≡ output_short n → record { answer = Err q; output = o } ≡ stored_by (got v last) o
   short_by h k =
       let over : length o < length v.1 = omega arith in
       rw (k, many, lt-leb (length v.1) (length o) over)
 
-  fit_by : n ≤ length o → {o' : List ℕ} → o' ≡ splice o 0 v.1 → record { answer = S.Count n; output = o' } ≡ stored_by (got v last) o
+  fit_by : n ≤ length o → {o' : List ℕ} → o' ≡ splice o 0 v.1 → record { answer = Ok n; output = o' } ≡ stored_by (got v last) o
   fit_by h k =
       let fits : length v.1 ≤ length o = omega arith in
       rw (k, many, le-leb (length v.1) (length o) fits)
 
-module _ (u : Terms) (s : List ℕ) (bs : Bytes s) {list : Listing} (e : list ≡ listing_under u 24 s) where
+module _ (u : Terms) (s : List ℕ) (bs : Bytes s) {list : Result Listing Refusal} (e : list ≡ listing_under u 24 s) where
   by : Seen s list (request_under u s)
-  by = subst (λ (l : Listing). Seen s l (request_under u s)) (sym e) (seen u s bs)
+  by = subst (λ (l : Result Listing Refusal). Seen s l (request_under u s)) (sym e) (seen u s bs)
 
-  pub indexes_refused : (o : List ℕ) {r : Refusal} → list ≡ L.Refused r → Answers u s o (S.Refused r) o
+  pub indexes_refused : (o : List ℕ) {r : Refusal} → list ≡ Err r → Answers u s o (Err r) o
   unfolding stored_under
   indexes_refused o g = answers (rw (refused_seen s (request_under u s) by g))
 
-  pub indexes_only : ((i : Items) → list ≡ L.Indexes i → ⊥) → ((r : Refusal) → list ≡ L.Refused r → ⊥) → ⊥
-  indexes_only q k = never_other s list (request_under u s) by q k
+  pub indexes_only : {x : Listing} → list ≡ Ok x → ((i : Items) → x ≡ L.Indexes i → ⊥) → ⊥
+  indexes_only {x} g q = never_other s x (request_under u s) (subst (λ (l : Result Listing Refusal). Seen s l (request_under u s)) g by) q
 
-  module _ {i : Items} (g : list ≡ L.Indexes i) where
+  module _ {i : Items} (g : list ≡ Ok (L.Indexes i)) where
     r : Read s i (request_under u s)
     r = indexes_seen s (request_under u s) by g
 
     pub indexes_read : Reads i.count 0 s i.first
     indexes_read = record { indexes = r.value.1; last = r.indexed.last; reads = r.indexed.reads }
 
-    pub indexes_short : (o : List ℕ) → length o < i.count → {q : Refusal} → q ≡ output_short i.count → Answers u s o (S.Refused q) o
+    pub indexes_short : (o : List ℕ) → length o < i.count → {q : Refusal} → q ≡ output_short i.count → Answers u s o (Err q) o
     unfolding stored_under
     indexes_short o h k = answers (short_by o r.value r.last i.count r.many h k ∙ sym (ap (λ (q : Outcome (Value getblocktxn)). stored_by q o) r.is))
 
-    pub indexes_fit : (o : List ℕ) → i.count ≤ length o → {o' : List ℕ} → o' ≡ splice o 0 (indexes_of (indexes_from i.count 0 s i.first)) → Answers u s o (S.Count i.count) o'
+    pub indexes_fit : (o : List ℕ) → i.count ≤ length o → {o' : List ℕ} → o' ≡ splice o 0 (indexes_of (indexes_from i.count 0 s i.first)) → Answers u s o (Ok i.count) o'
     unfolding stored_under
     indexes_fit o h k =
         answers (fit_by o r.value r.last i.count r.many h (k ∙ ap (λ (q : Outcome (List ℕ)). splice o 0 (indexes_of q)) r.indexed.reads) ∙ sym (ap (λ (q : Outcome (Value getblocktxn)). stored_by q o) r.is))

@@ -12,11 +12,11 @@ ghost use Rattle.hns_p2p_rights.specs.Terms.{terms_of};
 ghost use Rattle.hns_p2p_indexes.specs.Indexes.{stored_under};
 ghost use Rattle.hns_p2p_indexes.specs.Helpers.{Reads, StepThere, indexes_of};
 
-use hns_p2p_types::{Listing, Stored};
+use hns_p2p_types::Listing;
 use hns_refusals::Refusal;
 
 // A difference and the place after it.
-#[derive(Clone, Copy)]
+#[derive(Clone, Copy, Debug, PartialEq, Eq)]
 struct Step {
     difference: u64,
     after: usize,
@@ -27,19 +27,16 @@ fn step_at(payload: &[u8], at: usize) -> Step
     requires { StepThere payload.now at }
     ensures { count_at max_index index_field payload.now at ≡ got result.difference result.after }
 {
-    let head = hns_encoding::wide(payload[at]);
+    let head = payload[at];
     if head < 253 {
-        let after = at + 1;
         Step {
-            difference: head,
-            after,
+            difference: u64::from(head),
+            after: at + 1,
         }
     } else {
-        let two = hns_encoding::wide(payload[at + 1]) + 256 * hns_encoding::wide(payload[at + 2]);
-        let after = at + 3;
         Step {
-            difference: two,
-            after,
+            difference: u64::from(hns_encoding::u16_at(payload, at + 1)),
+            after: at + 3,
         }
     }
 }
@@ -49,37 +46,31 @@ fn store(payload: &[u8], count: usize, first: usize, out: &mut [u64])
     requires { Reads count 0 payload.now first × (count ≤ length out.old) }
     ensures { out.new ≡ splice out.old 0 (indexes_of (indexes_from count 0 payload.now first)) }
 {
-    let mut i = 0;
     let mut base: u64 = 0;
     let mut next = first;
-    while i < count {
+    for i in 0..count {
         let step = step_at(payload, next);
         let index = base + step.difference;
         out[i] = index;
         base = index + 1;
         next = step.after;
-        i += 1;
     }
 }
 
 // The indexes of a getblocktxn payload to the front of `out`: the payload's refusal, then 16 with the places needed; what is
 // refused writes nothing.
-pub fn indexes(terms: &[u64], payload: &[u8], out: &mut [u64]) -> Stored
+pub fn indexes(terms: &[u64], payload: &[u8], out: &mut [u64]) -> Result<usize, Refusal>
     ensures value { result ≡ (stored_under (terms_of terms.now) payload.now out.old).answer }
     ensures out_after { out.new ≡ (stored_under (terms_of terms.now) payload.now out.old).output }
 {
-    let list = hns_p2p_items::listing(terms, 24, payload);
-    match list {
-        Listing::Indexes(items) => {
-            let count = items.count;
-            let first = items.first;
-            if out.len() < count {
-                return Stored::Refused(Refusal::output_short(count));
-            }
-            store(payload, count, first, out);
-            Stored::Count(count)
-        }
-        Listing::Refused(refusal) => Stored::Refused(refusal),
-        _ => Stored::Count(0),
+    let list = hns_p2p_items::listing(terms, 24, payload)?;
+    let Listing::Indexes(items) = list else {
+        return Ok(0);
+    };
+    let count = items.count;
+    if out.len() < count {
+        return Err(Refusal::OutputShort { needed: count });
     }
+    store(payload, count, items.first, out);
+    Ok(count)
 }

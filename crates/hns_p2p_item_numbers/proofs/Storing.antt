@@ -1,6 +1,6 @@
 -- Numbers of items to an output's front: what is stored and what is left are all of them, and they are those of the items. Assumes nothing.
 use Prim.Native.Nat.{ℕ, zero, suc, ◌+◌, ◌-◌, ◌*◌, ◌≤◌, ◌<◌}
-use mathlib.Core.Path.{◌≡◌, refl, sym, ap, ◌∙◌, subst}
+use mathlib.Core.Path.{◌≡◌, refl, sym, ap, ◌∙◌}
 use mathlib.Core.Bool.{Bool, true, false}
 use mathlib.Core.List.{List, [], ◌∷◌, map}
 use native.Mathlib.Omega.{arith}
@@ -11,7 +11,7 @@ use borrow.Author.Tests.{le-leb, lt-leb}
 use Rattle.hns_refusals.specs.declared.Refusal.{Refusal}
 use Rattle.hns_refusals.specs.Limits.{max_payload, block_header_size}
 use Rattle.hns_refusals.specs.Refusals.{output_short}
-use Rattle.hns_encoding.specs.Bytes.{Bytes, number_at, Outcome, got, stop}
+use Rattle.hns_encoding.specs.Bytes.{Bytes, number_at, Outcome}
 use Rattle.hns_encoding.specs.Format.{Format, raw, whole, Value, size, Fixed, fixed_flat, value_at, values_at}
 use Rattle.hns_encoding.specs.Put.{splice}
 use Rattle.hns_encoding.proofs.Puts.{splice_none, splice_append, splice_cons, length_splice}
@@ -21,14 +21,13 @@ use Rattle.hns_p2p_types.specs.declared.NetAddress.{NetAddress}
 use Rattle.hns_p2p_types.specs.declared.Items.{Items}
 use Rattle.hns_p2p_types.specs.declared.Listing.{Listing}
 use Rattle.hns_p2p_types.specs.declared.Listing.TheVariants as L
-use Rattle.hns_p2p_types.specs.declared.Stored.{Stored}
-use Rattle.hns_p2p_types.specs.declared.Stored.TheVariants as S
+use Rattle.std.specs.Prelude.{Result, Ok, Err}
 use Rattle.hns_p2p_types.specs.Packets.{address_in, address_numbers, inventory_numbers}
 use Rattle.hns_p2p_blocks.proofs.Addresses.{address_is}
 use Rattle.hns_p2p_rights.specs.Terms.{Terms}
 use Rattle.hns_p2p_items.specs.Items.{Element, an_address, an_inventory, a_hash, a_header, an_index, Listed, size_of, answer, answer_at, listed_under}
-use Rattle.hns_p2p_items.specs.Listings.{listing_under, Records, Holds, HeldBy}
-use Rattle.hns_p2p_items.proofs.Held.{held_by, refused_held}
+use Rattle.hns_p2p_items.specs.Listings.{listing_under, Records, Holds}
+use Rattle.hns_p2p_items.proofs.Held.{There, there, away}
 use Rattle.hns_p2p_indexes.specs.Indexes.{Answer, fitted}
 use Rattle.hns_p2p_item_numbers.specs.Numbers.{item_numbers, numbers_after, numbers_by, numbers_under}
 use Rattle.hns_p2p_item_numbers.specs.Helpers.{bytes_each, numbers_each, numbers_at, numbers_from}
@@ -125,7 +124,7 @@ module _ {b : Bool} {s : List ℕ} {first count : ℕ} {o₀ o : List ℕ} {at t
 -- ---- where the output has room, and where it has not
 
 -- an answer and the output after it
-abbrev pub Answers : Answer → Stored → List ℕ → Type 0
+abbrev pub Answers : Answer → Result ℕ Refusal → List ℕ → Type 0
 Answers x answer output = (answer ≡ x.answer) × (output ≡ x.output)
 
 -- no more numbers than bytes
@@ -134,13 +133,13 @@ all_small true count first h = omega arith
 all_small false count first h = omega arith
 
 module _ (b : Bool) (s : List ℕ) (count first : ℕ) (o : List ℕ) {n : ℕ} (e : n ≡ count * numbers_each b) where
-  pub all_short : length o < n → {q : Refusal} → q ≡ output_short n → Answers (fitted (numbers_from b s count first) o) (S.Refused q) o
+  pub all_short : length o < n → {q : Refusal} → q ≡ output_short n → Answers (fitted (numbers_from b s count first) o) (Err q) o
   all_short h k =
       let many = length_from b s count first in
       let over : length o < length (numbers_from b s count first) = omega arith in
-      (rw (lt-leb (length (numbers_from b s count first)) (length o) over, many, ← e) (ap S.Refused k), rw (lt-leb (length (numbers_from b s count first)) (length o) over))
+      (rw (lt-leb (length (numbers_from b s count first)) (length o) over, many, ← e) (ap (λ (x : Refusal). Err x) k), rw (lt-leb (length (numbers_from b s count first)) (length o) over))
 
-  pub all_fit : n ≤ length o → {o' : List ℕ} → o' ≡ splice o 0 (numbers_from b s count first) → Answers (fitted (numbers_from b s count first) o) (S.Count n) o'
+  pub all_fit : n ≤ length o → {o' : List ℕ} → o' ≡ splice o 0 (numbers_from b s count first) → Answers (fitted (numbers_from b s count first) o) (Ok n) o'
   all_fit h k =
       let many = length_from b s count first in
       let fits : length (numbers_from b s count first) ≤ length o = omega arith in
@@ -196,13 +195,11 @@ pub record Shaped (b : Bool) (s : List ℕ) (i : Items) (q : Outcome Listed) : T
   pub inside : i.first + i.count * bytes_each b ≤ max_payload
   pub same : (o : List ℕ) → fitted (numbers_from b s i.count i.first) o ≡ numbers_by q o
 
-by_shape : (b : Bool) (s : List ℕ) (i : Items) (q : Outcome Listed) → HeldBy s (shaped b i) q → Shaped b s i q
-by_shape true s i (got l last) x = record { inside = omega (arith, x.0.inside, x.1); same = λ o. ap (λ (ns : List ℕ). fitted ns o) (sym (of_addresses s i l x.0)) }
-by_shape false s i (got l last) x = record { inside = omega (arith, x.0.inside, x.1); same = λ o. ap (λ (ns : List ℕ). fitted ns o) (sym (of_inventory s i l x.0)) }
-by_shape true s i (stop r) x = let z : ◌≡◌ {A = ℕ} 0 1 = cc in absurd (omega arith)
-by_shape false s i (stop r) x = let z : ◌≡◌ {A = ℕ} 0 1 = cc in absurd (omega arith)
+by_shape : (b : Bool) (s : List ℕ) (i : Items) (q : Outcome Listed) → There s (shaped b i) q → Shaped b s i q
+by_shape true s i q k = record { inside = omega (arith, k.holds.inside, k.small); same = λ o. rw k.is (ap (λ (ns : List ℕ). fitted ns o) (sym (of_addresses s i k.listed k.holds))) }
+by_shape false s i q k = record { inside = omega (arith, k.holds.inside, k.small); same = λ o. rw k.is (ap (λ (ns : List ℕ). fitted ns o) (sym (of_inventory s i k.listed k.holds))) }
 
-no_numbers : (o : List ℕ) (l : Listed) → numbers_after l 0 l.elements ≡ [] → Answers (fitted (numbers_after l 0 l.elements) o) (S.Count 0) o
+no_numbers : (o : List ℕ) (l : Listed) → numbers_after l 0 l.elements ≡ [] → Answers (fitted (numbers_after l 0 l.elements) o) (Ok 0) o
 no_numbers o l e =
     let fits : leb 0 (length o) ≡ true = le-leb 0 (length o) (omega arith) in
     (rw (e, fits), rw (e, fits) (sym (splice_none o 0)))
@@ -215,25 +212,20 @@ of_others s (L.Indexes i) o l r q k = ap (numbers_after l 0) r.same ∙ none_of 
 of_others s L.Nothing o l r q k = ap (numbers_after l 0) r
 of_others s (L.Addresses i) o l r q k = absurd (q i refl)
 of_others s (L.Inventory i) o l r q k = absurd (k i refl)
-of_others s (L.Refused x) o l r q k = absurd r
 
-module _ (u : Terms) (t : ℕ) (s : List ℕ) (bs : Bytes s) {list : Listing} (e : list ≡ listing_under u t s) where
-  pub numbers_shape : (b : Bool) (i : Items) → list ≡ shaped b i → Shaped b s i (listed_under u t s)
-  numbers_shape b i g = by_shape b s i (listed_under u t s) (subst (λ (q : Listing). HeldBy s q (listed_under u t s)) g (held_by u t s bs e))
+module _ (u : Terms) (t : ℕ) (s : List ℕ) (bs : Bytes s) {list : Result Listing Refusal} (e : list ≡ listing_under u t s) where
+  pub numbers_shape : (b : Bool) (i : Items) → list ≡ Ok (shaped b i) → Shaped b s i (listed_under u t s)
+  numbers_shape b i g = by_shape b s i (listed_under u t s) (there u t s bs e g)
 
-  pub numbers_refused : (o : List ℕ) {r : Refusal} → list ≡ L.Refused r → Answers (numbers_under u t s o) (S.Refused r) o
+  pub numbers_refused : (o : List ℕ) {r : Refusal} → list ≡ Err r → Answers (numbers_under u t s o) (Err r) o
   unfolding numbers_under
-  numbers_refused o g = let a = refused_held s (listed_under u t s) (held_by u t s bs e) g in (rw a, rw a)
+  numbers_refused o g = let a = away u t s bs e g in (rw a, rw a)
 
-  pub numbers_none : (o : List ℕ) → ((i : Items) → list ≡ L.Addresses i → ⊥) → ((i : Items) → list ≡ L.Inventory i → ⊥) → ((r : Refusal) → list ≡ L.Refused r → ⊥) → Answers (numbers_under u t s o) (S.Count 0) o
+  pub numbers_none : (o : List ℕ) {x : Listing} → list ≡ Ok x → ((i : Items) → x ≡ L.Addresses i → ⊥) → ((i : Items) → x ≡ L.Inventory i → ⊥) → Answers (numbers_under u t s o) (Ok 0) o
   unfolding numbers_under
-  numbers_none o a i k = go (listed_under u t s) (held_by u t s bs e)
-    where
-      go : (q : Outcome Listed) → HeldBy s list q → Answers (numbers_by q o) (S.Count 0) o
-      go (got l last) x = no_numbers o l (of_others s list o l x.0 a i)
-      go (stop r) x = absurd (k r x)
+  numbers_none o {x} g a i = let k = there u t s bs e g in rw k.is (no_numbers o k.listed (of_others s x o k.listed k.holds a i))
 
-  module _ (b : Bool) (i : Items) (g : list ≡ shaped b i) (o : List ℕ) {a : Stored} {o' : List ℕ} where
+  module _ (b : Bool) (i : Items) (g : list ≡ Ok (shaped b i)) (o : List ℕ) {a : Result ℕ Refusal} {o' : List ℕ} where
     pub numbers_all : a ≡ (fitted (numbers_from b s i.count i.first) o).answer → o' ≡ (fitted (numbers_from b s i.count i.first) o).output → Answers (numbers_under u t s o) a o'
     unfolding numbers_under
     numbers_all x y = let k = (numbers_shape b i g).same o in (x ∙ ap (λ (z : Answer). z.answer) k, y ∙ ap (λ (z : Answer). z.output) k)

@@ -10,7 +10,7 @@ ghost use Rattle.hns_p2p_indexes.specs.Indexes.{fitted};
 ghost use Rattle.hns_p2p_item_numbers.specs.Numbers.{numbers_under};
 ghost use Rattle.hns_p2p_item_numbers.specs.Helpers.{bytes_each, numbers_each, numbers_at, numbers_from};
 
-use hns_p2p_types::{Items, Listing, NET_ADDRESS_SIZE, Stored};
+use hns_p2p_types::{Items, Listing, NET_ADDRESS_SIZE};
 use hns_refusals::Refusal;
 
 // How many bytes an item takes, and how many numbers it has: addresses, or inventory items.
@@ -67,17 +67,15 @@ fn put_items(payload: &[u8], addresses: bool, first: usize, count: usize, out: &
     let numbers = numbers_each(addresses);
     let mut at = first;
     let mut to = 0;
-    let mut i = 0;
-    while i < count {
+    for _ in 0..count {
         put_item(payload, addresses, at, out, to);
         at += bytes;
         to += numbers;
-        i += 1;
     }
 }
 
 // All of them, where the output has room.
-fn put_all(payload: &[u8], addresses: bool, items: Items, out: &mut [u64]) -> Stored
+fn put_all(payload: &[u8], addresses: bool, items: Items, out: &mut [u64]) -> Result<usize, Refusal>
     requires { items.first + items.count * bytes_each addresses ≤ max_payload }
     ensures value { result ≡ (fitted (numbers_from addresses payload.now items.count items.first) out.old).answer }
     ensures out_after { out.new ≡ (fitted (numbers_from addresses payload.now items.count items.first) out.old).output }
@@ -86,23 +84,26 @@ fn put_all(payload: &[u8], addresses: bool, items: Items, out: &mut [u64]) -> St
     let first = items.first;
     let numbers = count * numbers_each(addresses);
     if out.len() < numbers {
-        return Stored::Refused(Refusal::output_short(numbers));
+        return Err(Refusal::OutputShort { needed: numbers });
     }
     put_items(payload, addresses, first, count, out);
-    Stored::Count(numbers)
+    Ok(numbers)
 }
 
 // The numbers of the items of a payload of a type side by side to the front of `out`, and how many they are: the payload's
 // refusal, then 16 with the places needed; what is refused writes nothing. Types without addresses or inventory items have none.
-pub fn item_numbers(terms: &[u64], packet_type: u8, payload: &[u8], out: &mut [u64]) -> Stored
+pub fn item_numbers(
+    terms: &[u64],
+    packet_type: u8,
+    payload: &[u8],
+    out: &mut [u64],
+) -> Result<usize, Refusal>
     ensures value { result ≡ (numbers_under (terms_of terms.now) packet_type payload.now out.old).answer }
     ensures out_after { out.new ≡ (numbers_under (terms_of terms.now) packet_type payload.now out.old).output }
 {
-    let list = hns_p2p_items::listing(terms, packet_type, payload);
-    match list {
+    match hns_p2p_items::listing(terms, packet_type, payload)? {
         Listing::Addresses(items) => put_all(payload, true, items, out),
         Listing::Inventory(items) => put_all(payload, false, items, out),
-        Listing::Refused(refusal) => Stored::Refused(refusal),
-        _ => Stored::Count(0),
+        _ => Ok(0),
     }
 }

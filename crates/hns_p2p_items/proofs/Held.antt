@@ -7,7 +7,9 @@ use lib.ListN.{length, get_or, length-map}
 use lib.Dec.{leb}
 use borrow.Author.Tests.{leb-true}
 use Rattle.hns_encoding.proofs.Blocks.{length_values}
+use Rattle.std.specs.Prelude.{Ok, Err}
 use Rattle.hns_refusals.specs.declared.Refusal.{Refusal}
+use Rattle.hns_refusals.specs.Refusals.{Answer}
 use Rattle.hns_refusals.specs.Limits.{max_payload, block_header_size, max_addresses, max_inventory, max_locator, max_headers, max_indexes}
 use Rattle.hns_refusals.specs.Refusals.{address_field, inventory_field, locator_field, header_field, index_count_field}
 use Rattle.hns_encoding.specs.Bytes.{Bytes, Outcome, got, stop, left, bytes_at, to_end}
@@ -29,7 +31,7 @@ use Rattle.hns_p2p_lists.proofs.Lists.{many_fits, records}
 use Rattle.hns_p2p_lists.proofs.Listed.{count_place, list_stands}
 use Rattle.hns_p2p_lists.proofs.Requests.{index_count}
 use Rattle.hns_p2p_items.specs.Items.{Element, an_address, an_inventory, a_hash, a_header, Listed, under, items, RowItems, none, row_items, items_by, listed_by, listed_under}
-use Rattle.hns_p2p_items.specs.Listings.{list_in, listing_under, Records, Indexed, Holds, HeldBy, ListingHolds}
+use Rattle.hns_p2p_items.specs.Listings.{list_in, list_by, listing_under, Records, Indexed, Holds, HeldBy, ListingHolds}
 use Rattle.hns_p2p_items.specs.Helpers.{items_in}
 
 -- ---- lists of items of a fixed size
@@ -149,7 +151,7 @@ row_held t = both_at RowItems Held rows (raw_bytes (P.Unknown t)) t row_items no
 -- of any reading that gives what the fields read as, of no more bytes than a payload may have
 pub held_from : (t : ℕ) (s : List ℕ) → Bytes s → (q : Outcome (Value (layout t (length s))))
     → ((v : Value (layout t (length s))) (last : ℕ) → q ≡ got v last → (length s ≤ max_payload) × (to_end (read (layout t (length s))) s ≡ got v last))
-    → HeldBy s (list_in (answered ((row t).packet s) q)) (listed_by t s q)
+    → HeldBy s (list_by (answered ((row t).packet s) q)) (listed_by t s q)
 unfolding list_in
 held_from t s bs (got v last) reads =
     let k = reads v last refl in
@@ -160,21 +162,38 @@ pub held : ListingHolds
 unfolding listing_under listed_under packet_under
 held u t s bs = held_from t s bs (read_under u t s) (λ v last e. (let g = under_got u t s e in (g.small, g.whole)))
 
-pub held_by : (u : Terms) (t : ℕ) (s : List ℕ) → Bytes s → {list : Listing} → list ≡ listing_under u t s → HeldBy s list (listed_under u t s)
-held_by u t s bs e = subst (λ (q : Listing). HeldBy s q (listed_under u t s)) (sym e) (held u t s bs)
+-- the items of a payload whose list is answered
+pub record There (s : List ℕ) (list : Listing) (o : Outcome Listed) : Type 0 where
+  pub listed : Listed
+  pub last : ℕ
+  pub is : o ≡ got listed last
+  pub holds : Holds s list listed
+  pub small : length s ≤ max_payload
 
-pub refused_held : (s : List ℕ) {list : Listing} {r : Refusal} (o : Outcome Listed) → HeldBy s list o → list ≡ L.Refused r → o ≡ stop r
-refused_held s (got l last) x e = absurd (subst (λ (q : Listing). Holds s q l) e x.0)
-refused_held s {r = r} (stop q) x e = let same : q ≡ r = cc in ap stop same
+there_by : (s : List ℕ) (o : Outcome Listed) {list : Answer Listing} {x : Listing} → HeldBy s list o → list ≡ Ok x → There s x o
+there_by s (got l last) {x = x} h e = let k : HeldBy s (Ok x) (got l last) = subst (λ (q : Answer Listing). HeldBy s q (got l last)) e h in record { listed = l; last = last; is = refl; holds = k.0; small = k.1 }
+there_by s (stop r) h e = cc
+
+pub refused_held : (s : List ℕ) {list : Answer Listing} {r : Refusal} (o : Outcome Listed) → HeldBy s list o → list ≡ Err r → o ≡ stop r
+refused_held s {r = r} (got l last) x e = absurd (subst (λ (q : Answer Listing). HeldBy s q (got l last)) e x)
+refused_held s (stop q) x e = cc
+
+module _ (u : Terms) (t : ℕ) (s : List ℕ) (bs : Bytes s) {list : Answer Listing} (e : list ≡ listing_under u t s) where
+  held_by : HeldBy s list (listed_under u t s)
+  held_by = subst (λ (q : Answer Listing). HeldBy s q (listed_under u t s)) (sym e) (held u t s bs)
+
+  pub there : {x : Listing} → list ≡ Ok x → There s x (listed_under u t s)
+  there g = there_by s (listed_under u t s) held_by g
+
+  pub away : {r : Refusal} → list ≡ Err r → listed_under u t s ≡ stop r
+  away g = refused_held s (listed_under u t s) held_by g
 
 -- the places of the items are numbers of 64 bits
-pub room : (s : List ℕ) (list : Listing) (o : Outcome Listed) → HeldBy s list o → ((items_in list).first ≤ max_payload) × ((items_in list).count ≤ max_payload)
+pub room : (s : List ℕ) (list : Listing) (o : Outcome Listed) → There s list o → ((items_in list).first ≤ max_payload) × ((items_in list).count ≤ max_payload)
 unfolding items_in
-room s list (stop r) h = rw h (omega arith, omega arith)
-room s (L.Addresses i) (got l last) h = (omega (arith, h.0.inside, h.1), omega (arith, h.0.inside, h.1))
-room s (L.Inventory i) (got l last) h = (omega (arith, h.0.inside, h.1), omega (arith, h.0.inside, h.1))
-room s (L.Hashes i) (got l last) h = (omega (arith, h.0.inside, h.1), omega (arith, h.0.inside, h.1))
-room s (L.Headers i) (got l last) h = (omega (arith, h.0.inside, h.1), omega (arith, h.0.inside, h.1))
-room s (L.Indexes i) (got l last) h = (omega (arith, h.0.indexed.inside, h.1), omega (arith, h.0.indexed.few))
-room s L.Nothing (got l last) h = (omega arith, omega arith)
-room s (L.Refused r) (got l last) h = absurd h.0
+room s (L.Addresses i) o h = (omega (arith, h.holds.inside, h.small), omega (arith, h.holds.inside, h.small))
+room s (L.Inventory i) o h = (omega (arith, h.holds.inside, h.small), omega (arith, h.holds.inside, h.small))
+room s (L.Hashes i) o h = (omega (arith, h.holds.inside, h.small), omega (arith, h.holds.inside, h.small))
+room s (L.Headers i) o h = (omega (arith, h.holds.inside, h.small), omega (arith, h.holds.inside, h.small))
+room s (L.Indexes i) o h = (omega (arith, h.holds.indexed.inside, h.small), omega (arith, h.holds.indexed.few))
+room s L.Nothing o h = (omega arith, omega arith)

@@ -8,14 +8,14 @@ use native.Mathlib.Numerals.{add-one}
 use lib.ListN.{length, get_or, length-map}
 use lib.Dec.{leb}
 use borrow.Author.Tests.{leb-true}
+use Rattle.std.specs.Prelude.{Ok, Err, MatchResult, IsOkAnd}
 use Rattle.hns_refusals.specs.declared.Refusal.{Refusal}
 use Rattle.hns_refusals.specs.Limits.{max_payload, block_header_size, max_index}
-use Rattle.hns_refusals.specs.Refusals.{no_item, index_field}
-use Rattle.hns_encoding.specs.Bytes.{part, Bytes, Outcome, got, stop, to_end}
+use Rattle.hns_refusals.specs.Refusals.{Answer, no_item, index_field}
+use Rattle.hns_encoding.specs.Bytes.{part, Bytes, got, to_end}
 use Rattle.hns_encoding.specs.Compact.{count_at}
 use Rattle.hns_encoding.specs.Format.{Format, Value, read, indexes_from, size, Fixed, fixed_flat, value_at, values_at}
-use Rattle.hns_encoding.specs.Answers.{number_of}
-use Rattle.hns_encoding.specs.declared.Number.TheVariants as N
+use Rattle.hns_encoding.specs.Answers.{result_of}
 use Rattle.hns_encoding.proofs.Numbers.{part_length}
 use Rattle.hns_encoding.proofs.Outcomes.{after_got, choose_got, to_end_fits}
 use Rattle.hns_encoding.proofs.Blocks.{block_fits, length_values}
@@ -26,61 +26,22 @@ use Rattle.hns_p2p_types.specs.declared.Item.TheVariants as I
 use Rattle.hns_p2p_types.specs.declared.Listing.{Listing}
 use Rattle.hns_p2p_types.specs.declared.Listing.TheVariants as L
 use Rattle.hns_p2p_types.specs.declared.Packet.{Packet}
-use Rattle.hns_p2p_types.specs.declared.Packet.TheVariants as P
 use Rattle.hns_p2p_types.specs.Protocol.{read_by}
 use Rattle.hns_p2p_types.specs.Packets.{row, layout, answered}
 use Rattle.hns_p2p_types.proofs.Payloads.{by_got}
 use Rattle.hns_p2p_rights.specs.Terms.{Terms}
+use Rattle.hns_p2p_admission.specs.Reading.{packet_under}
 use Rattle.hns_p2p_blocks.proofs.Addresses.{address_is}
+use Rattle.hns_p2p_differences.specs.declared.Passed.{Passed}
+use Rattle.hns_p2p_differences.specs.Passing.{passed_of}
 use Rattle.hns_p2p_differences.specs.Helpers.{passed_after}
 use Rattle.hns_p2p_lists.proofs.Lists.{value_stands}
 use Rattle.hns_p2p_differences.proofs.Passing.{passed_first, index_next, indexes_end}
 use Rattle.hns_p2p_lists.proofs.Requests.{index_count}
 use Rattle.hns_p2p_items.specs.Items.{Element, an_index, Listed, size_of, answer, pick, answer_at, item_by, item_of, item_under, listed_of, listed_under, Stands, key_there, hash_there, bytes_there, header_there, index_there, ItemsStand}
-use Rattle.hns_p2p_items.specs.Listings.{list_in, listing_under, Records, Indexes, Holds, HeldBy}
+use Rattle.hns_p2p_items.specs.Listings.{list_in, list_by, listing_under, Records, Indexes, Holds, HeldBy}
 use Rattle.hns_p2p_items.specs.Helpers.{items_in, last_item, index_in, item_in}
-use Rattle.hns_p2p_items.proofs.Held.{held_from, held_by, refused_held, room}
-
--- ---- packets that have no list
-
--- a packet is not of a variant
-abbrev IsNot : {A : Type 0} → (A → Packet) → Packet → Type 0
-IsNot {A} make p = (x : A) → p ≡ make x → ⊥
-
-pub listless : (p : Packet) → IsNot P.Addr p → IsNot P.Inv p → IsNot P.GetData p → IsNot P.NotFound p → IsNot P.GetBlocks p → IsNot P.GetHeaders p → IsNot P.Headers p → IsNot P.GetBlockTxn p → IsNot P.Refused p → L.Nothing ≡ list_in p
-unfolding list_in
-listless (P.Addr x) h _ _ _ _ _ _ _ _ = absurd (h x refl)
-listless (P.Inv x) _ h _ _ _ _ _ _ _ = absurd (h x refl)
-listless (P.GetData x) _ _ h _ _ _ _ _ _ = absurd (h x refl)
-listless (P.NotFound x) _ _ _ h _ _ _ _ _ = absurd (h x refl)
-listless (P.GetBlocks x) _ _ _ _ h _ _ _ _ = absurd (h x refl)
-listless (P.GetHeaders x) _ _ _ _ _ h _ _ _ = absurd (h x refl)
-listless (P.Headers x) _ _ _ _ _ _ h _ _ = absurd (h x refl)
-listless (P.GetBlockTxn x) _ _ _ _ _ _ _ h _ = absurd (h x refl)
-listless (P.Refused x) _ _ _ _ _ _ _ _ h = absurd (h x refl)
-listless (P.Version x) _ _ _ _ _ _ _ _ _ = refl
-listless P.Verack _ _ _ _ _ _ _ _ _ = refl
-listless (P.Ping x) _ _ _ _ _ _ _ _ _ = refl
-listless (P.Pong x) _ _ _ _ _ _ _ _ _ = refl
-listless P.GetAddr _ _ _ _ _ _ _ _ _ = refl
-listless P.SendHeaders _ _ _ _ _ _ _ _ _ = refl
-listless (P.Block x) _ _ _ _ _ _ _ _ _ = refl
-listless (P.Tx x) _ _ _ _ _ _ _ _ _ = refl
-listless (P.Reject x) _ _ _ _ _ _ _ _ _ = refl
-listless P.Mempool _ _ _ _ _ _ _ _ _ = refl
-listless (P.FilterLoad x) _ _ _ _ _ _ _ _ _ = refl
-listless (P.FilterAdd x) _ _ _ _ _ _ _ _ _ = refl
-listless P.FilterClear _ _ _ _ _ _ _ _ _ = refl
-listless (P.MerkleBlock x) _ _ _ _ _ _ _ _ _ = refl
-listless (P.FeeFilter x) _ _ _ _ _ _ _ _ _ = refl
-listless (P.SendCmpct x y) _ _ _ _ _ _ _ _ _ = refl
-listless (P.CmpctBlock x) _ _ _ _ _ _ _ _ _ = refl
-listless (P.BlockTxn x) _ _ _ _ _ _ _ _ _ = refl
-listless (P.GetProof x) _ _ _ _ _ _ _ _ _ = refl
-listless (P.Proof x) _ _ _ _ _ _ _ _ _ = refl
-listless (P.Claim x) _ _ _ _ _ _ _ _ _ = refl
-listless (P.Airdrop x) _ _ _ _ _ _ _ _ _ = refl
-listless (P.Unknown x y) _ _ _ _ _ _ _ _ _ = refl
+use Rattle.hns_p2p_items.proofs.Held.{held_from, there, away, room}
 
 -- ---- the element at a place
 
@@ -149,18 +110,18 @@ first_of n base s p {is} e =
 
 -- it is passed first
 first_passed : (k before : ℕ) {n base : ℕ} {s : List ℕ} {p : ℕ} {is : List ℕ} (g : First n base s p is) → passed_after before (indexes_from (suc k) base s p) ≡ passed_after (base + g.d) (indexes_from k (base + g.d + 1) s g.next)
-unfolding number_of
-first_passed k before {base = base} {s} {p} g = index_next k before base s p {read = N.Value g.d g.next} (sym (ap number_of g.difference)) refl g.small
+unfolding result_of
+first_passed k before {base = base} {s} {p} g = index_next k before base s p {read = Ok (g.d, g.next)} (sym (ap result_of g.difference)) refl g.small
 
 -- the index at a place is the last of as many and one more
-nth_index : (k n before base : ℕ) (s : List ℕ) (p : ℕ) {is : List ℕ} {last : ℕ} → indexes_from n base s p ≡ got is last → k < n → last_item (passed_after before (indexes_from (suc k) base s p)) ≡ I.Index (get_or is k 0)
+nth_index : (k n before base : ℕ) (s : List ℕ) (p : ℕ) {is : List ℕ} {last : ℕ} → indexes_from n base s p ≡ got is last → k < n → last_item (passed_after before (indexes_from (suc k) base s p)) ≡ Ok (I.Index (get_or is k 0))
 nth_index k zero before base s p e h = absurd (omega arith)
 nth_index zero (suc n) before base s p e h =
     let g = first_of n base s p e in
-    ap last_item (first_passed 0 before g ∙ indexes_end (base + g.d) (base + g.d + 1) s g.next) ∙ ap (λ (js : List ℕ). I.Index (get_or js 0 0)) g.same
+    ap last_item (first_passed 0 before g ∙ indexes_end (base + g.d) (base + g.d + 1) s g.next) ∙ ap (λ (js : List ℕ). Ok (I.Index (get_or js 0 0))) g.same
 nth_index (suc k) (suc n) before base s p e h =
     let g = first_of n base s p e in
-    ap last_item (first_passed (suc k) before g) ∙ (nth_index k n (base + g.d) (base + g.d + 1) s g.next g.reads (omega arith) ∙ ap (λ (js : List ℕ). I.Index (get_or js (suc k) 0)) g.same)
+    ap last_item (first_passed (suc k) before g) ∙ (nth_index k n (base + g.d) (base + g.d + 1) s g.next g.reads (omega arith) ∙ ap (λ (js : List ℕ). Ok (I.Index (get_or js (suc k) 0))) g.same)
 
 module _ {s : List ℕ} {i : Items} {l : Listed} (r : Indexes s i l) where
   indexes_many : length r.indexes ≡ i.count
@@ -169,11 +130,29 @@ module _ {s : List ℕ} {i : Items} {l : Listed} (r : Indexes s i l) where
   nth_of_indexes : (k : ℕ) → k < i.count → (d : Element) → get_or l.elements k d ≡ an_index (get_or r.indexes k 0)
   nth_of_indexes k h d = ap (λ (es : List Element). get_or es k d) r.same ∙ get_d_map an_index r.indexes k 0 d (rw indexes_many h)
 
-  index_law : (k : ℕ) → k < i.count → (d : Element) → index_in s i.first k ≡ answer_at l k (get_or l.elements k d)
+  index_law : (k : ℕ) → k < i.count → (d : Element) → index_in s i.first k ≡ Ok (answer_at l k (get_or l.elements k d))
   unfolding index_in
-  index_law k h d = rw (passed_first, add-one) (nth_index k i.count 0 0 s i.first r.indexed.reads h) ∙ sym (ap (answer_at l k) (nth_of_indexes k h d))
+  index_law k h d = rw (passed_first, add-one) (nth_index k i.count 0 0 s i.first r.indexed.reads h) ∙ sym (ap (λ (e : Element). Ok (answer_at l k e)) (nth_of_indexes k h d))
 
 -- ---- the code's answer is the definition's
+
+pub list_read : (u : Terms) (t : ℕ) (s : List ℕ) {packet : Answer Packet} {list : Answer Listing} → packet ≡ packet_under u t s → MatchResult packet (λ p. IsOkAnd list (λ l. l ≡ list_in p)) (λ r. list ≡ Err r) → list ≡ listing_under u t s
+unfolding listing_under
+list_read u t s {packet} {list} e m = rw (← e) (go packet list m)
+  where
+    go : (packet : Answer Packet) (list : Answer Listing) → MatchResult packet (λ p. IsOkAnd list (λ l. l ≡ list_in p)) (λ r. list ≡ Err r) → list ≡ list_by packet
+    go (Ok p) (Ok l) m = ap Ok m
+    go (Ok p) (Err r) m = absurd m
+    go (Err r) list m = m
+
+module _ (s : List ℕ) (first k : ℕ) {passed : Answer Passed} (e : passed ≡ passed_of (indexes_from (k + 1) 0 s first)) where
+  pub index_read : {to : Passed} → passed ≡ Ok to → Ok (I.Index to.last) ≡ index_in s first k
+  unfolding index_in
+  index_read g = ap last_item (sym g ∙ e)
+
+  pub index_refused : {r : Refusal} → passed ≡ Err r → Err r ≡ index_in s first k
+  unfolding index_in
+  index_refused g = ap last_item (sym g ∙ e)
 
 as_many : (s : List ℕ) (list : Listing) (l : Listed) → Holds s list l → length l.elements ≡ (items_in list).count
 unfolding items_in
@@ -183,49 +162,44 @@ as_many s (L.Hashes i) l r = records_many r
 as_many s (L.Headers i) l r = records_many r
 as_many s (L.Indexes i) l r = ap length r.same ∙ (length-map r.indexes an_index ∙ indexes_many r)
 as_many s L.Nothing l r = ap length r
-as_many s (L.Refused q) l r = absurd r
 
-item_law : (s : List ℕ) (list : Listing) (l : Listed) → Holds s list l → (k : ℕ) → k < (items_in list).count → (d : Element) → item_in s list (items_in list).first k ≡ answer_at l k (get_or l.elements k d)
+item_law : (s : List ℕ) (list : Listing) (l : Listed) → Holds s list l → (k : ℕ) → k < (items_in list).count → (d : Element) → item_in s list (items_in list).first k ≡ Ok (answer_at l k (get_or l.elements k d))
 unfolding items_in item_in
-item_law s (L.Addresses i) l r k h d = ap I.Address (address_is s (i.first + k * 88) (omega (arith, record_inside r k h))) ∙ sym (record_answer r k h (λ v. refl) d)
-item_law s (L.Inventory i) l r k h d = sym (record_answer r k h (λ v. refl) d)
-item_law s (L.Hashes i) l r k h d = sym (record_answer r k h (λ v. refl) d)
-item_law s (L.Headers i) l r k h d = sym (record_answer r k h (λ v. refl) d)
+item_law s (L.Addresses i) l r k h d = ap Ok (ap I.Address (address_is s (i.first + k * 88) (omega (arith, record_inside r k h))) ∙ sym (record_answer r k h (λ v. refl) d))
+item_law s (L.Inventory i) l r k h d = sym (ap Ok (record_answer r k h (λ v. refl) d))
+item_law s (L.Hashes i) l r k h d = sym (ap Ok (record_answer r k h (λ v. refl) d))
+item_law s (L.Headers i) l r k h d = sym (ap Ok (record_answer r k h (λ v. refl) d))
 item_law s (L.Indexes i) l r k h d = index_law r k h d
 item_law s L.Nothing l r k h d = absurd (omega arith)
-item_law s (L.Refused q) l r k h d = absurd r
 
-module _ (u : Terms) (t : ℕ) (s : List ℕ) (bs : Bytes s) (k : ℕ) {list : Listing} (e : list ≡ listing_under u t s) where
-  pub item_room : {i : Items} → i ≡ items_in list → k < i.count → (i.first ≤ max_payload) × (k ≤ max_payload)
-  item_room q h =
-      let m = room s list (listed_under u t s) (held_by u t s bs e) in
-      let n : k < (items_in list).count = rw q at h in
-      rw q (m.0, omega (arith, m.1))
-
-  pub item_there : {i : Items} {item : Item} → i ≡ items_in list → k < i.count → item ≡ item_in s list i.first k → item ≡ item_under u t s k
-  unfolding item_under items_in
-  item_there q h g = g ∙ (ap (λ (j : Items). item_in s list j.first k) q ∙ go (listed_under u t s) (held_by u t s bs e) (rw q at h))
-    where
-      go : (o : Outcome Listed) → HeldBy s list o → k < (items_in list).count → item_in s list (items_in list).first k ≡ item_by k o
-      go (got l last) x h =
-          let n = as_many s list l x.0 in
-          item_law s list l x.0 k h (an_index 0) ∙ sym (pick_there (answer_at l k) (I.Refused no_item) l.elements k (an_index 0) (omega arith))
-      go (stop r) x h = absurd (omega (arith, rw x at h))
-
-  pub item_past : {i : Items} → i ≡ items_in list → i.count ≤ k → ((r : Refusal) → list ≡ L.Refused r → ⊥) → I.Refused no_item ≡ item_under u t s k
+module _ (u : Terms) (t : ℕ) (s : List ℕ) (bs : Bytes s) (k : ℕ) {list : Answer Listing} (e : list ≡ listing_under u t s) where
+  pub item_refused : {r : Refusal} → list ≡ Err r → Err r ≡ item_under u t s k
   unfolding item_under
-  item_past q h z = go (listed_under u t s) (held_by u t s bs e)
-    where
-      go : (o : Outcome Listed) → HeldBy s list o → I.Refused no_item ≡ item_by k o
-      go (got l last) x =
-          let n = as_many s list l x.0 in
-          let m : (items_in list).count ≤ k = rw q at h in
-          sym (pick_past (answer_at l k) (I.Refused no_item) l.elements k (omega arith))
-      go (stop r) x = absurd (z r x)
+  item_refused g = ap (item_by k) (sym (away u t s bs e g))
 
-  pub item_refused : {r : Refusal} → list ≡ L.Refused r → I.Refused r ≡ item_under u t s k
-  unfolding item_under
-  item_refused q = ap (item_by k) (sym (refused_held s (listed_under u t s) (held_by u t s bs e) q))
+  module _ {x : Listing} (g : list ≡ Ok x) {i : Items} (q : i ≡ items_in x) where
+    pub item_room : k < i.count → (i.first ≤ max_payload) × (k ≤ max_payload)
+    item_room h =
+        let m = room s x (listed_under u t s) (there u t s bs e g) in
+        let n : k < (items_in x).count = rw q at h in
+        rw q (m.0, omega (arith, m.1))
+
+    pub item_there : k < i.count → {item : Answer Item} → item ≡ item_in s x i.first k → item ≡ item_under u t s k
+    unfolding item_under items_in
+    item_there h f =
+        let o = there u t s bs e g in
+        let n = as_many s x o.listed o.holds in
+        let c : k < (items_in x).count = rw q at h in
+        f ∙ (ap (λ (j : Items). item_in s x j.first k) q ∙ (item_law s x o.listed o.holds k c (an_index 0)
+        ∙ sym (ap (item_by k) o.is ∙ pick_there (λ (e : Element). Ok (answer_at o.listed k e)) (Err no_item) o.listed.elements k (an_index 0) (omega arith))))
+
+    pub item_past : i.count ≤ k → Err no_item ≡ item_under u t s k
+    unfolding item_under
+    item_past h =
+        let o = there u t s bs e g in
+        let n = as_many s x o.listed o.holds in
+        let m : (items_in x).count ≤ k = rw q at h in
+        sym (ap (item_by k) o.is ∙ pick_past (λ (e : Element). Ok (answer_at o.listed k e)) (Err no_item) o.listed.elements k (omega arith))
 
 -- ---- what stands at the places
 
@@ -234,25 +208,27 @@ header_stands s q h =
     let long = part_length s q block_header_size (omega arith) in
     to_end_fits (read header) (part s q block_header_size) (block_fits header _ (part s q block_header_size) 0 (omega arith)) (omega arith)
 
-element_stands : (s : List ℕ) (list : Listing) (l : Listed) → Holds s list l → (k : ℕ) → k < (items_in list).count → (d : Element) → Stands s (get_or l.elements k d) (answer_at l k (get_or l.elements k d))
+element_stands : (s : List ℕ) (list : Listing) (l : Listed) → Holds s list l → (k : ℕ) → k < (items_in list).count → (d : Element) → Stands s (get_or l.elements k d) (Ok (answer_at l k (get_or l.elements k d)))
 unfolding items_in
 element_stands s (L.Addresses i) l r k h d =
     let q = i.first + k * 88 in
     let p55 : q + 8 + 4 + 4 + 37 + 2 ≡ q + 55 = omega arith in
-    subst₂ (Stands s) (sym (nth_record r k h d)) (sym (record_answer r k h (λ v. refl) d)) (key_there (ap (λ (p : ℕ). part s p 33) (sym p55)))
-element_stands s (L.Inventory i) l r k h d = subst₂ (Stands s) (sym (nth_record r k h d)) (sym (record_answer r k h (λ v. refl) d)) (hash_there refl)
-element_stands s (L.Hashes i) l r k h d = subst₂ (Stands s) (sym (nth_record r k h d)) (sym (record_answer r k h (λ v. refl) d)) (bytes_there refl)
-element_stands s (L.Headers i) l r k h d = subst₂ (Stands s) (sym (nth_record r k h d)) (sym (record_answer r k h (λ v. refl) d)) (header_there (header_stands s (i.first + k * block_header_size) (record_inside r k h)))
+    subst₂ (λ (e : Element) (a : Item). Stands s e (Ok a)) (sym (nth_record r k h d)) (sym (record_answer r k h (λ v. refl) d)) (key_there (ap (λ (p : ℕ). part s p 33) (sym p55)))
+element_stands s (L.Inventory i) l r k h d = subst₂ (λ (e : Element) (a : Item). Stands s e (Ok a)) (sym (nth_record r k h d)) (sym (record_answer r k h (λ v. refl) d)) (hash_there refl)
+element_stands s (L.Hashes i) l r k h d = subst₂ (λ (e : Element) (a : Item). Stands s e (Ok a)) (sym (nth_record r k h d)) (sym (record_answer r k h (λ v. refl) d)) (bytes_there refl)
+element_stands s (L.Headers i) l r k h d =
+    subst₂ (λ (e : Element) (a : Item). Stands s e (Ok a)) (sym (nth_record r k h d)) (sym (record_answer r k h (λ v. refl) d)) (header_there (header_stands s (i.first + k * block_header_size) (record_inside r k h)))
 element_stands s (L.Indexes i) l r k h d = rw (nth_of_indexes r k h d) index_there
 element_stands s L.Nothing l r k h d = absurd (omega arith)
-element_stands s (L.Refused q) l r k h d = absurd r
+
+held_stands : (s : List ℕ) (list : Answer Listing) (l : Listed) (last : ℕ) → HeldBy s list (got l last) → (k : ℕ) → k < length l.elements → (d : Element) → Stands s (get_or l.elements k d) (Ok (answer_at l k (get_or l.elements k d)))
+held_stands s (Ok list) l last r k h d = let n = as_many s list l r.0 in element_stands s list l r.0 k (omega arith) d
+held_stands s (Err q) l last r k h d = absurd r
 
 pub stands : ItemsStand
 unfolding item_of listed_of
 stands t s bs l last e k h d =
-    let list = list_in (answered ((row t).packet s) (read_by (layout t) s)) in
     let whole = held_from t s bs (read_by (layout t) s) (λ v last e. by_got (layout t) s e) in
-    let r : HeldBy s list (got l last) = subst (HeldBy s list) e whole in
-    let n = as_many s list l r.0 in
-    let is : item_by k (listed_of t s) ≡ answer_at l k (get_or l.elements k d) = ap (item_by k) e ∙ pick_there (answer_at l k) (I.Refused no_item) l.elements k d h in
-    subst (Stands s (get_or l.elements k d)) (sym is) (element_stands s list l r.0 k (omega arith) d)
+    let r : HeldBy s (list_by (answered ((row t).packet s) (read_by (layout t) s))) (got l last) = subst (HeldBy s (list_by (answered ((row t).packet s) (read_by (layout t) s)))) e whole in
+    let is : item_by k (listed_of t s) ≡ Ok (answer_at l k (get_or l.elements k d)) = ap (item_by k) e ∙ pick_there (λ (e : Element). Ok (answer_at l k e)) (Err no_item) l.elements k d h in
+    subst (Stands s (get_or l.elements k d)) (sym is) (held_stands s (list_by (answered ((row t).packet s) (read_by (layout t) s))) l last r k h d)

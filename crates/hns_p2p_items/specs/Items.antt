@@ -1,7 +1,7 @@
 -- Document 01, 'The packet', its paragraph on the finder: the items of a payload, which only the counted lists have (5 to 11, 24), and the item at a place.
-use Rattle.std.specs.Prelude.{ℕ, zero, suc, ◌+◌, ◌*◌, ◌<◌, ◌≡◌, List, [], ◌∷◌, map, length, get_or}
+use Rattle.std.specs.Prelude.{ℕ, zero, suc, ◌+◌, ◌*◌, ◌<◌, ◌≡◌, List, [], ◌∷◌, map, length, get_or, Ok, Err}
 use Rattle.hns_refusals.specs.Limits.{block_header_size}
-use Rattle.hns_refusals.specs.Refusals.{no_item}
+use Rattle.hns_refusals.specs.Refusals.{Answer, no_item}
 use Rattle.hns_encoding.specs.Bytes.{part, Bytes, Outcome, got, stop, after, to_end}
 use Rattle.hns_encoding.specs.Compact.{compact_bytes}
 use Rattle.hns_encoding.specs.Format.{raw, whole, Value, read, size, All}
@@ -130,26 +130,26 @@ abbrev pub answer_at : Listed → ℕ → Element → Item
 answer_at l k e = answer (l.first + k * size_of e) e
 
 -- the payload's own refusal first, then 19
-abbrev pub item_by : ℕ → Outcome Listed → Item
-item_by k (got l last) = pick (answer_at l k) (I.Refused no_item) l.elements k
-item_by k (stop r) = I.Refused r
+abbrev pub item_by : ℕ → Outcome Listed → Answer Item
+item_by k (got l last) = pick (λ e. Ok (answer_at l k e)) (Err no_item) l.elements k
+item_by k (stop r) = Err r
 
 -- the item at place k, from 0 on, of a payload s of type t; no output is lent, so that 16 is no refusal here
-unfoldable pub item_of : ℕ → List ℕ → ℕ → Item
+unfoldable pub item_of : ℕ → List ℕ → ℕ → Answer Item
 item_of t s k = item_by k (listed_of t s)
 
-unfoldable pub item_under : Terms → ℕ → List ℕ → ℕ → Item
+unfoldable pub item_under : Terms → ℕ → List ℕ → ℕ → Answer Item
 item_under u t s k = item_by k (listed_under u t s)
 
 -- ---- what stands at an answered place
 
 -- an item's bytes stand at the places of its answer
-pub data Stands (s : List ℕ) : Element → Item → Type 0 where
-  key_there : {v : Value address} {a : NetAddress} → part s a.key 33 ≡ v.1.1.1.1.1 → Stands s (an_address v) (I.Address a)
-  hash_there : {v : Value inventory_item} {p : ℕ} → part s p 32 ≡ v.1 → Stands s (an_inventory v) (I.Inventory v.0 p)
-  bytes_there : {v : List ℕ} {p : ℕ} → part s p 32 ≡ v → Stands s (a_hash v) (I.Hash p)
-  header_there : {v : Value header} {p : ℕ} → to_end (read header) (part s p block_header_size) ≡ got v block_header_size → Stands s (a_header v) (I.Header p)
-  index_there : {i : ℕ} → Stands s (an_index i) (I.Index i)
+pub data Stands (s : List ℕ) : Element → Answer Item → Type 0 where
+  key_there : {v : Value address} {a : NetAddress} → part s a.key 33 ≡ v.1.1.1.1.1 → Stands s (an_address v) (Ok (I.Address a))
+  hash_there : {v : Value inventory_item} {p : ℕ} → part s p 32 ≡ v.1 → Stands s (an_inventory v) (Ok (I.Inventory v.0 p))
+  bytes_there : {v : List ℕ} {p : ℕ} → part s p 32 ≡ v → Stands s (a_hash v) (Ok (I.Hash p))
+  header_there : {v : Value header} {p : ℕ} → to_end (read header) (part s p block_header_size) ≡ got v block_header_size → Stands s (a_header v) (Ok (I.Header p))
+  index_there : {i : ℕ} → Stands s (an_index i) (Ok (I.Index i))
 
 -- `stands` of proofs/Items.antt
 abbrev pub ItemsStand : Type 0

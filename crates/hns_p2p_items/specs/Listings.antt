@@ -1,5 +1,6 @@
 -- What `listing` answers: the list of a packet by what its items are; and what stands from its first place on.
-use Rattle.std.specs.Prelude.{ℕ, ◌+◌, ◌*◌, ◌≤◌, ◌≡◌, refl, List, [], map, length}
+use Rattle.std.specs.Prelude.{ℕ, ◌+◌, ◌*◌, ◌≤◌, ◌≡◌, refl, List, [], map, length, Ok, Err}
+use Rattle.hns_refusals.specs.Refusals.{Answer}
 use Rattle.hns_refusals.specs.Limits.{max_payload, block_header_size, max_indexes}
 use Rattle.hns_encoding.specs.Bytes.{Bytes, Outcome, got, stop}
 use Rattle.hns_encoding.specs.Format.{Format, raw, whole, Value, indexes_from, size, Fixed, values_at}
@@ -23,7 +24,6 @@ list_in (P.GetBlocks x) = L.Hashes x.locator
 list_in (P.GetHeaders x) = L.Hashes x.locator
 list_in (P.Headers x) = L.Headers x
 list_in (P.GetBlockTxn x) = L.Indexes x.indexes
-list_in (P.Refused r) = L.Refused r
 list_in (P.Version x) = L.Nothing
 list_in P.Verack = L.Nothing
 list_in (P.Ping x) = L.Nothing
@@ -48,9 +48,14 @@ list_in (P.Claim x) = L.Nothing
 list_in (P.Airdrop x) = L.Nothing
 list_in (P.Unknown t x) = L.Nothing
 
+-- the list of a packet that was read, or the refusal
+abbrev pub list_by : Answer Packet → Answer Listing
+list_by (Ok packet) = Ok (list_in packet)
+list_by (Err r) = Err r
+
 -- the list of a payload of a type that is read under terms
-unfoldable pub listing_under : Terms → ℕ → List ℕ → Listing
-listing_under u t s = list_in (packet_under u t s)
+unfoldable pub listing_under : Terms → ℕ → List ℕ → Answer Listing
+listing_under u t s = list_by (packet_under u t s)
 
 -- ---- what stands at the place where a list begins
 
@@ -79,12 +84,12 @@ Holds s (L.Hashes i) l = Records (raw 32) _ a_hash s i l
 Holds s (L.Headers i) l = Records (whole block_header_size header) (refl, _) a_header s i l
 Holds s (L.Indexes i) l = Indexes s i l
 Holds s L.Nothing l = l.elements ≡ []
-Holds s (L.Refused r) l = ⊥
 
 -- a list is refused as the payload is, or holds its items
-abbrev pub HeldBy : List ℕ → Listing → Outcome Listed → Type 0
-HeldBy s list (got l last) = Holds s list l × (length s ≤ max_payload)
-HeldBy s list (stop r) = list ≡ L.Refused r
+abbrev pub HeldBy : List ℕ → Answer Listing → Outcome Listed → Type 0
+HeldBy s (Ok list) (got l last) = Holds s list l × (length s ≤ max_payload)
+HeldBy s (Err r) (got l last) = ⊥
+HeldBy s list (stop r) = list ≡ Err r
 
 -- `held` of proofs/Held.antt: of every type and every payload, under any terms
 abbrev pub ListingHolds : Type 0

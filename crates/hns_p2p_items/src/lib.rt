@@ -9,107 +9,90 @@ ghost use Rattle.hns_p2p_items.specs.Listings.{list_in, listing_under};
 ghost use Rattle.hns_p2p_items.specs.Helpers.{items_in, index_in, item_in};
 
 use hns_header_consensus::HEADER_SIZE;
-use hns_p2p_differences::Passed;
 use hns_p2p_types::{Item, Items, Listing, NET_ADDRESS_SIZE, Packet};
 use hns_refusals::Refusal;
 
 // The list of a packet.
+#[tactic(auto, unfolding(crate::specs::Listings::list_in))]
 fn list_in(packet: Packet) -> Listing
     ensures { result ≡ list_in packet }
 {
     match packet {
         Packet::Addr(items) => Listing::Addresses(items),
-        Packet::Inv(items) => Listing::Inventory(items),
-        Packet::GetData(items) => Listing::Inventory(items),
-        Packet::NotFound(items) => Listing::Inventory(items),
-        Packet::GetBlocks(packet) => {
-            let hashes = packet.locator;
-            Listing::Hashes(hashes)
+        Packet::Inv(items) | Packet::GetData(items) | Packet::NotFound(items) => {
+            Listing::Inventory(items)
         }
-        Packet::GetHeaders(packet) => {
-            let hashes = packet.locator;
-            Listing::Hashes(hashes)
-        }
+        Packet::GetBlocks(packet) | Packet::GetHeaders(packet) => Listing::Hashes(packet.locator),
         Packet::Headers(items) => Listing::Headers(items),
-        Packet::GetBlockTxn(request) => {
-            let indexes = request.indexes;
-            Listing::Indexes(indexes)
-        }
-        Packet::Refused(refusal) => Listing::Refused(refusal),
+        Packet::GetBlockTxn(request) => Listing::Indexes(request.indexes),
         _ => Listing::Nothing,
     }
 }
 
 // The list of a payload of a type under terms, or the refusal.
-pub fn listing(terms: &[u64], packet_type: u8, payload: &[u8]) -> Listing
+pub fn listing(terms: &[u64], packet_type: u8, payload: &[u8]) -> Result<Listing, Refusal>
     ensures { result ≡ listing_under (terms_of terms.now) packet_type payload.now }
 {
-    list_in(hns_p2p_packet::read_payload(terms, packet_type, payload))
+    hns_p2p_packet::read_payload(terms, packet_type, payload).map(list_in)
 }
 
-// The items of a list, none where it has none or is refused.
+// The items of a list, none where it has none.
+#[tactic(auto, unfolding(crate::specs::Helpers::items_in))]
 fn items_in(list: Listing) -> Items
     ensures { result ≡ items_in list }
 {
     match list {
-        Listing::Addresses(items) => items,
-        Listing::Inventory(items) => items,
-        Listing::Hashes(items) => items,
-        Listing::Headers(items) => items,
-        Listing::Indexes(items) => items,
+        Listing::Addresses(items)
+        | Listing::Inventory(items)
+        | Listing::Hashes(items)
+        | Listing::Headers(items)
+        | Listing::Indexes(items) => items,
         Listing::Nothing => Items { count: 0, first: 0 },
-        Listing::Refused(_) => Items { count: 0, first: 0 },
     }
 }
 
 // The index at a place is the last of as many indexes and one more.
-fn index_in(payload: &[u8], first: usize, place: usize) -> Item
+#[tactic(auto, using(crate::proofs::Items::index_read, crate::proofs::Items::index_refused))]
+fn index_in(payload: &[u8], first: usize, place: usize) -> Result<Item, Refusal>
     requires { place ≤ max_payload }
     ensures { result ≡ index_in payload.now first place }
 {
     let count = (place + 1) as u64;
-    let passed = hns_p2p_differences::pass_indexes(payload, count, first);
-    match passed {
-        Passed::To { next: _, last } => Item::Index(last),
-        Passed::Refused(refusal) => Item::Refused(refusal),
-    }
+    let passed = hns_p2p_differences::pass_indexes(payload, count, first)?;
+    Ok(Item::Index(passed.last))
 }
 
-// The item at a place, of a list that is longer.
-fn item_in(payload: &[u8], list: Listing, first: usize, place: usize) -> Item
+// The item at a place, of a list that is longer and begins at `first`.
+#[tactic(auto, unfolding(crate::specs::Helpers::item_in))]
+fn item_in(payload: &[u8], list: Listing, first: usize, place: usize) -> Result<Item, Refusal>
     requires { (first ≤ max_payload) × (place ≤ max_payload) }
     ensures { result ≡ item_in payload.now list first place }
 {
     match list {
         Listing::Addresses(_) => {
-            let address = hns_p2p_blocks::address_at(payload, first + place * NET_ADDRESS_SIZE);
-            Item::Address(address)
+            let at = first + place * NET_ADDRESS_SIZE;
+            Ok(Item::Address(hns_p2p_blocks::address_at(payload, at)))
         }
         Listing::Inventory(_) => {
             let at = first + place * 36;
             let kind = hns_encoding::u32_at(payload, at);
-            Item::Inventory { kind, hash: at + 4 }
+            Ok(Item::Inventory { kind, hash: at + 4 })
         }
-        Listing::Hashes(_) => Item::Hash(first + place * 32),
-        Listing::Headers(_) => Item::Header(first + place * HEADER_SIZE),
+        Listing::Hashes(_) => Ok(Item::Hash(first + place * 32)),
+        Listing::Headers(_) => Ok(Item::Header(first + place * HEADER_SIZE)),
         Listing::Indexes(_) => index_in(payload, first, place),
-        Listing::Nothing => Item::Refused(Refusal::no_item()),
-        Listing::Refused(refusal) => Item::Refused(refusal),
+        Listing::Nothing => Err(Refusal::NoItem),
     }
 }
 
 // The item at a place of a payload of a type: the payload's own refusal first, which is never 16, then 19.
-pub fn item(terms: &[u64], packet_type: u8, payload: &[u8], place: usize) -> Item
+pub fn item(terms: &[u64], packet_type: u8, payload: &[u8], place: usize) -> Result<Item, Refusal>
     ensures { result ≡ item_under (terms_of terms.now) packet_type payload.now place }
 {
-    let list = listing(terms, packet_type, payload);
+    let list = listing(terms, packet_type, payload)?;
     let items = items_in(list);
-    if place < items.count {
-        return item_in(payload, list, items.first, place);
+    if items.count <= place {
+        return Err(Refusal::NoItem);
     }
-    let none = Refusal::no_item();
-    match list {
-        Listing::Refused(own) => Item::Refused(own),
-        _ => Item::Refused(none),
-    }
+    item_in(payload, list, items.first, place)
 }

@@ -16,7 +16,7 @@ use Rattle.hns_p2p_types.specs.declared.Span.{Span}
 use Rattle.hns_p2p_types.specs.declared.Packet.{Packet}
 use Rattle.hns_p2p_types.specs.declared.Packet.TheVariants as P
 use Rattle.hns_p2p_types.specs.declared.LocatorPacket.{LocatorPacket}
-use Rattle.hns_p2p_types.specs.declared.Hash.TheVariants as H
+use Rattle.std.specs.Prelude.{Some, None}
 use Rattle.hns_p2p_types.specs.Protocol.{version, locator, carries_hash, reject, getblocktxn, getproof}
 use Rattle.hns_p2p_types.specs.Packets.{Row, worded, fields, raw_bytes, version_packet, locator_packet, reject_packet, span_at, agent_of, reason_of, items_at, rows, row, layout, ◌&◌, entry}
 use Rattle.hns_p2p_blocks.proofs.Packets.{reject_flat}
@@ -81,7 +81,7 @@ stop_stands k h = record {
 }
 
 hash_stands : (s : List ℕ) (b : Bool) (x : Flat (choose b (raw 32) nothing)) (p : ℕ) → p + sum (widths_at (choose b (raw 32) nothing) s p) ≡ length s
-    → standing s (hash_place (choose b (H.At (length s - 32)) H.Absent)) ≡ rejected_part b (value_at (choose b (raw 32) nothing) x s p)
+    → standing s (hash_place (choose b (Some (length s - 32)) None)) ≡ rejected_part b (value_at (choose b (raw 32) nothing) x s p)
 hash_stands s true x p h = let here : length s - 32 ≡ p = omega (arith, h) in ap (λ (q : ℕ). part s q 32 ∷ []) here
 hash_stands s false x p h = refl
 
@@ -91,7 +91,7 @@ reject_stands = record {
   stand = λ s v last e.
       let t = to_end_got (read reject) s e in
       let g = flat_got reject reject_flat s 0 t.0 in
-      subst (λ (u : Value reject). standing s (hash_place (choose (carries_hash u.0) (H.At (length s - 32)) H.Absent)) ≡ rejected_part (carries_hash u.0) u.1.1.1) g.0
+      subst (λ (u : Value reject). standing s (hash_place (choose (carries_hash u.0) (Some (length s - 32)) None)) ≡ rejected_part (carries_hash u.0) u.1.1.1) g.0
       (hash_stands s (carries_hash (number_at 1 s 0)) _ (2 + (1 + (number_at 1 s 2 + 0))) (omega (arith, g.1, g.2, t.1)));
 }
 

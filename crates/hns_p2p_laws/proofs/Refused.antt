@@ -7,8 +7,7 @@ use lib.ListN.{length}
 use lib.Dec.{leb, ltb, eqb}
 use borrow.Author.Tests.{le-leb, lt-leb}
 use Rattle.hns_refusals.specs.declared.Refusal.{Refusal}
-use Rattle.hns_refusals.specs.declared.Checked.{Checked}
-use Rattle.hns_refusals.specs.declared.Checked.TheVariants as C
+use Rattle.std.specs.Prelude.{Result, Ok, Err}
 use Rattle.hns_refusals.specs.Limits.{max_indexes, max_index}
 use Rattle.hns_refusals.specs.Refusals.{index_count_field, index_field}
 use Rattle.hns_encoding.specs.Bytes.{choose, left, Outcome, got, stop, after, bytes_at, le_at, end_at, to_end}
@@ -111,14 +110,14 @@ module _ (u : Terms) (t : ℕ) (s o : List ℕ) where
   abbrev answer : Outcome (Value (layout t (length s))) → Answer
   answer q = answer_by ((row t).packet s) ((row t).text s) q o
 
-  by_fields : AdmissionIs u t (length s) C.Passed → (q : Outcome (Value (layout t (length s)))) → fields_read t s ≡ q → AnswerIs u t s o (answer q)
+  by_fields : AdmissionIs u t (length s) (Ok tt) → (q : Outcome (Value (layout t (length s)))) → fields_read t s ≡ q → AnswerIs u t s o (answer q)
   unfolding texted
   by_fields a (got v last) e = choose_leb (AnswerIs u t s o) (length ((row t).text s v)) (length o) (reads a v last e) (text_short a v last e)
   by_fields a (stop r) e = refused a r e (why (subst (λ (q : Outcome (Value (layout t (length s)))). Only q) e (fields_only t s)))
 
-  by_tests : (a : Checked) → AdmissionIs u t (length s) a → AnswerIs u t s o (answer (if_passed a (fields_read t s)))
-  by_tests C.Passed a = by_fields a (fields_read t s) refl
-  by_tests (C.Refused r) a = if_turned_away r a
+  by_tests : (a : Result (Unit {0}) Refusal) → AdmissionIs u t (length s) a → AnswerIs u t s o (answer (if_passed a (fields_read t s)))
+  by_tests (Ok u) a = by_fields a (fields_read t s) refl
+  by_tests (Err r) a = if_turned_away r a
 
   -- the answer meets its condition
   answer_is : AnswerIs u t s o (read_packet_under u t s o)
@@ -126,9 +125,9 @@ module _ (u : Terms) (t : ℕ) (s o : List ℕ) where
   answer_is = by_tests (admitted u t (length s)) ((conditions u t (length s) (admitted u t (length s))).1 refl)
 
   -- what a test answers, and so what is read
-  given_tests : {a : Checked} → AdmissionIs u t (length s) a → read_packet_under u t s o ≡ answer (if_passed a (fields_read t s))
+  given_tests : {a : Result (Unit {0}) Refusal} → AdmissionIs u t (length s) a → read_packet_under u t s o ≡ answer (if_passed a (fields_read t s))
   unfolding read_packet_under read_under
-  given_tests {a} c = ap (λ (k : Checked). answer (if_passed k (fields_read t s))) (sym ((conditions u t (length s) a).0 c))
+  given_tests {a} c = ap (λ (k : Result (Unit {0}) Refusal). answer (if_passed k (fields_read t s))) (sym ((conditions u t (length s) a).0 c))
 
   -- and no other answer does
   answer_only : {a : Answer} → AnswerIs u t s o a → a ≡ read_packet_under u t s o

@@ -5,8 +5,9 @@ use mathlib.Core.List.{List, [], ◌∷◌, ◌++◌}
 use mathlib.Core.Bool.{Bool, true, false}
 use native.Mathlib.Omega.{arith}
 use lib.ListN.{replicate}
+use Rattle.std.specs.Prelude.{Result, Ok, Err}
 use Rattle.hns_refusals.specs.declared.Refusal.{Refusal}
-use Rattle.hns_refusals.specs.Refusals.{unexpected_end, over_limit, address_field}
+use Rattle.hns_refusals.specs.Refusals.{number, unexpected_end, over_limit, address_field}
 use Rattle.hns_refusals.specs.Limits.{max_addresses}
 use Rattle.hns_encoding.specs.Bytes.{le, le_at, bytes_at, end_at, to_end, got}
 use Rattle.hns_encoding.specs.Compact.{wide_at, compact_from, compact_at, count_at}
@@ -19,15 +20,15 @@ use Rattle.hns_p2p_types.specs.Protocol.{carries_hash, read_by}
 use Rattle.hns_p2p_types.specs.Packets.{Answer, read_packet, row, rows, texted}
 use Rattle.hns_p2p_laws.specs.Trials.{TrialsFail}
 
-abbrev packet : Answer → Packet
+abbrev packet : Answer → Result Packet Refusal
 packet a = a.packet
 
 -- two pings that differ
-ping : (read_packet 2 (replicate 8 0) []).packet ≡ P.Ping 0
+ping : (read_packet 2 (replicate 8 0) []).packet ≡ Ok (P.Ping 0)
 unfolding read_packet row rows read_by read texted le le_at bytes_at end_at to_end
 ping = refl
 
-other_ping : (read_packet 2 (1 ∷ replicate 7 0) []).packet ≡ P.Ping 1
+other_ping : (read_packet 2 (1 ∷ replicate 7 0) []).packet ≡ Ok (P.Ping 1)
 unfolding read_packet row rows read_by read texted le le_at bytes_at end_at to_end
 other_ping = refl
 
@@ -44,7 +45,7 @@ too_many_count : compact_at too_many 0 ≡ got 1001 3
 unfolding compact_at compact_from wide_at le le_at bytes_at
 too_many_count = refl
 
-too_many_refused : (read_packet 5 too_many []).packet ≡ P.Refused (over_limit 1001 max_addresses address_field)
+too_many_refused : (read_packet 5 too_many []).packet ≡ Err (over_limit 1001 max_addresses address_field)
 unfolding read_packet row rows read_by read count_at compact_at compact_from wide_at le le_at bytes_at to_end
 too_many_refused = refl
 
@@ -62,7 +63,7 @@ two =
       no_relay = false;
     }
 
-two_reads : (read_packet 0 (replicate 121 0 ++ (2 ∷ [])) []).packet ≡ P.Version two
+two_reads : (read_packet 0 (replicate 121 0 ++ (2 ∷ [])) []).packet ≡ Ok (P.Version two)
 unfolding read_packet row rows read_by read texted le le_at bytes_at end_at to_end
 two_reads = refl
 
@@ -70,12 +71,12 @@ pub trials_fail : TrialsFail
 trials_fail =
     record {
       one_packet = λ read one is.
-          let same : P.Ping 0 ≡ P.Ping 1 = sym ping ∙ (sym (ap packet (is 2 (replicate 8 0) [])) ∙ (one 2 (replicate 8 0) (1 ∷ replicate 7 0) [] ∙ (ap packet (is 2 (1 ∷ replicate 7 0) []) ∙ other_ping))) in
+          let same : ◌≡◌ {A = Result Packet Refusal} (Ok (P.Ping 0)) (Ok (P.Ping 1)) = sym ping ∙ (sym (ap packet (is 2 (replicate 8 0) [])) ∙ (one 2 (replicate 8 0) (1 ∷ replicate 7 0) [] ∙ (ap packet (is 2 (1 ∷ replicate 7 0) []) ∙ other_ping))) in
           let z : ◌≡◌ {A = ℕ} 0 1 = cc same in
           absurd (omega arith);
       not_refuses_all = λ read refuses is.
           let r = refuses 2 (replicate 8 0) [] in
-          let same : P.Ping 0 ≡ P.Refused r.0 = sym ping ∙ (sym (ap packet (is 2 (replicate 8 0) [])) ∙ r.1) in
+          let same : ◌≡◌ {A = Result Packet Refusal} (Ok (P.Ping 0)) (Err r.0) = sym ping ∙ (sym (ap packet (is 2 (replicate 8 0) [])) ∙ r.1) in
           let z : ◌≡◌ {A = ℕ} 0 1 = cc same in
           absurd (omega arith);
       no_text = λ read none is.
@@ -84,9 +85,9 @@ trials_fail =
           absurd (omega arith);
       items_first = λ read first is.
           let r = first too_many [] 1001 3 (omega arith) too_many_count (omega arith) in
-          let same : P.Refused (over_limit 1001 max_addresses address_field) ≡ P.Refused (unexpected_end r.0 r.1) = sym too_many_refused ∙ (sym (ap packet (is 5 too_many [])) ∙ r.2) in
+          let same : ◌≡◌ {A = Result Packet Refusal} (Err (over_limit 1001 max_addresses address_field)) (Err (unexpected_end r.0 r.1)) = sym too_many_refused ∙ (sym (ap packet (is 5 too_many [])) ∙ r.2) in
           let refusals : over_limit 1001 max_addresses address_field ≡ unexpected_end r.0 r.1 = cc same in
-          let z : ◌≡◌ {A = ℕ} 7 1 = ap (λ (r : Refusal). r.number) refusals in
+          let z : ◌≡◌ {A = ℕ} 7 1 = ap number refusals in
           absurd (omega arith);
       nonzero_is_true = λ read nonzero is.
           let same : ◌≡◌ {A = Bool} false true = nonzero (replicate 121 0) [] 2 two (omega arith) (ap packet (is 0 (replicate 121 0 ++ (2 ∷ [])) []) ∙ two_reads) in

@@ -1,10 +1,8 @@
 -- The places that a packet answers, and what the format reads there: keys, hashes and raw bytes as they stand, texts without their top bits. (The items under a count: crates/hns_p2p_items/specs/Items.antt.)
-use Rattle.std.specs.Prelude.{ℕ, ◌+◌, ◌≤◌, ◌≡◌, Bool, true, false, List, [], ◌∷◌, map, length}
+use Rattle.std.specs.Prelude.{ℕ, ◌+◌, ◌≤◌, ◌≡◌, Bool, true, false, List, [], ◌∷◌, map, length, Option, Some, None}
 use Rattle.hns_encoding.specs.Bytes.{choose, part, got}
 use Rattle.hns_encoding.specs.Format.{nothing, raw, Value, low7, All}
 use Rattle.hns_p2p_types.specs.declared.Span.{Span}
-use Rattle.hns_p2p_types.specs.declared.Hash.{Hash}
-use Rattle.hns_p2p_types.specs.declared.Hash.TheVariants as H
 use Rattle.hns_p2p_types.specs.declared.Packet.{Packet}
 use Rattle.hns_p2p_types.specs.declared.Packet.TheVariants as P
 use Rattle.hns_p2p_types.specs.Protocol.{carries_hash, read_by}
@@ -16,9 +14,9 @@ use Rattle.hns_p2p_types.specs.Packets.{Row, rows, raw_bytes, row, layout, ◌&�
 abbrev pub at : ℕ → ℕ → Span
 at start n = record { start = start; length = n }
 
-abbrev pub hash_place : Hash → List Span
-hash_place (H.At p) = at p 32 ∷ []
-hash_place H.Absent = []
+abbrev pub hash_place : Option ℕ → List Span
+hash_place (Some p) = at p 32 ∷ []
+hash_place None = []
 
 -- bytes as they stand
 unfoldable pub raw_places : Packet → List Span
@@ -53,7 +51,6 @@ raw_places P.Mempool = []
 raw_places P.FilterClear = []
 raw_places (P.FeeFilter n) = []
 raw_places (P.SendCmpct m n) = []
-raw_places (P.Refused r) = []
 
 -- ---- what the format reads there
 

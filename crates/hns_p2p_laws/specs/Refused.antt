@@ -1,12 +1,10 @@
 -- Demand 1 of reading a packet under terms: which refusals it can give, exactly when, and that what is refused writes nothing.
-use Rattle.std.specs.Prelude.{ℕ, ◌≤◌, ◌<◌, ◌≡◌, List, ◌↔◌, length}
+use Rattle.std.specs.Prelude.{ℕ, ◌≤◌, ◌<◌, ◌≡◌, List, ◌↔◌, length, Ok, Err}
 use Rattle.hns_refusals.specs.declared.Refusal.{Refusal}
-use Rattle.hns_refusals.specs.declared.Checked.TheVariants as C
 use Rattle.hns_refusals.specs.Refusals.{unexpected_end, not_shortest, trailing_bytes, over_limit, index_over, output_short}
 use Rattle.hns_encoding.specs.Bytes.{Outcome, got, stop, to_end}
 use Rattle.hns_encoding.specs.Format.{Value, read}
 use Rattle.hns_encoding.specs.Put.{splice}
-use Rattle.hns_p2p_types.specs.declared.Packet.TheVariants as P
 use Rattle.hns_p2p_types.specs.Packets.{row, layout, Answer}
 use Rattle.hns_p2p_rights.specs.Terms.{Terms}
 use Rattle.hns_p2p_admission.specs.Reading.{read_packet_under}
@@ -26,13 +24,13 @@ fields_read t s = to_end (read (layout t (length s))) s
 
 -- the answer under terms u with the output o: the tests (21, 22, 5), the fields, the text (16); what is refused leaves the output as it was
 pub data AnswerIs (u : Terms) (t : ℕ) (s o : List ℕ) : Answer → Type 0 where
-  if_turned_away : (r : Refusal) → AdmissionIs u t (length s) (C.Refused r) → AnswerIs u t s o (record { packet = P.Refused r; text = o })
-  refused : AdmissionIs u t (length s) C.Passed → (r : Refusal) → fields_read t s ≡ stop r → FieldRefusal r
-      → AnswerIs u t s o (record { packet = P.Refused r; text = o })
-  text_short : AdmissionIs u t (length s) C.Passed → (v : Value (layout t (length s))) (last : ℕ) → fields_read t s ≡ got v last → length o < length ((row t).text s v)
-      → AnswerIs u t s o (record { packet = P.Refused (output_short (length ((row t).text s v))); text = o })
-  reads : AdmissionIs u t (length s) C.Passed → (v : Value (layout t (length s))) (last : ℕ) → fields_read t s ≡ got v last → length ((row t).text s v) ≤ length o
-      → AnswerIs u t s o (record { packet = (row t).packet s v; text = splice o 0 ((row t).text s v) })
+  if_turned_away : (r : Refusal) → AdmissionIs u t (length s) (Err r) → AnswerIs u t s o (record { packet = Err r; text = o })
+  refused : AdmissionIs u t (length s) (Ok tt) → (r : Refusal) → fields_read t s ≡ stop r → FieldRefusal r
+      → AnswerIs u t s o (record { packet = Err r; text = o })
+  text_short : AdmissionIs u t (length s) (Ok tt) → (v : Value (layout t (length s))) (last : ℕ) → fields_read t s ≡ got v last → length o < length ((row t).text s v)
+      → AnswerIs u t s o (record { packet = Err (output_short (length ((row t).text s v))); text = o })
+  reads : AdmissionIs u t (length s) (Ok tt) → (v : Value (layout t (length s))) (last : ℕ) → fields_read t s ≡ got v last → length ((row t).text s v) ≤ length o
+      → AnswerIs u t s o (record { packet = Ok ((row t).packet s v); text = splice o 0 ((row t).text s v) })
 
 -- `packet_is` of proofs/Refused.antt: `read_packet` gives an answer exactly if its condition holds
 abbrev pub PacketIs : Type 0

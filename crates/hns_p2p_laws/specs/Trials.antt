@@ -1,5 +1,5 @@
 -- Wrong readers, none of which reads as the table says: document 01's trial 5, and its slips on packets.
-use Rattle.std.specs.Prelude.{ℕ, ◌*◌, ◌≤◌, ◌<◌, ◌≡◌, List, [], ◌∷◌, ◌++◌, true, length}
+use Rattle.std.specs.Prelude.{ℕ, ◌*◌, ◌≤◌, ◌<◌, ◌≡◌, List, [], ◌∷◌, ◌++◌, true, length, Ok, Err}
 use Rattle.hns_refusals.specs.declared.Refusal.{Refusal}
 use Rattle.hns_refusals.specs.Limits.{max_payload}
 use Rattle.hns_refusals.specs.Refusals.{unexpected_end}
@@ -25,7 +25,7 @@ OnePacket read = (t : ℕ) (s s' o : List ℕ) → (read t s o).packet ≡ (read
 
 -- refusal throughout
 abbrev pub RefusesAll : Reader → Type 0
-RefusesAll read = (t : ℕ) (s o : List ℕ) → (r : Refusal) × ((read t s o).packet ≡ P.Refused r)
+RefusesAll read = (t : ℕ) (s o : List ℕ) → (r : Refusal) × ((read t s o).packet ≡ Err r)
 
 -- no agent and no reason written
 abbrev pub NoText : Reader → Type 0
@@ -35,12 +35,12 @@ NoText read = (t : ℕ) (s o : List ℕ) → (read t s o).text ≡ o
 abbrev pub ItemsFirst : Reader → Type 0
 ItemsFirst read =
     (s o : List ℕ) (count next : ℕ) → length s ≤ max_payload → compact_at s 0 ≡ got count next → left s next < count * size address
-    → (at : ℕ) × (missing : ℕ) × ((read 5 s o).packet ≡ P.Refused (unexpected_end at missing))
+    → (at : ℕ) × (missing : ℕ) × ((read 5 s o).packet ≡ Err (unexpected_end at missing))
 
 -- slip: no-relay, the last byte of a version, is true for every number but 0
 abbrev pub NonzeroIsTrue : Reader → Type 0
 NonzeroIsTrue read =
-    (s o : List ℕ) (b : ℕ) (v : VersionPacket) → 0 < b → (read 0 (s ++ (b ∷ [])) o).packet ≡ P.Version v → v.no_relay ≡ true
+    (s o : List ℕ) (b : ℕ) (v : VersionPacket) → 0 < b → (read 0 (s ++ (b ∷ [])) o).packet ≡ Ok (P.Version v) → v.no_relay ≡ true
 
 -- `trials_fail` of proofs/Trials.antt
 pub record TrialsFail : Type 0 where

@@ -1,3 +1,4 @@
 pub mod Lists
 pub mod Listed
 pub mod Requests
+pub mod Packets

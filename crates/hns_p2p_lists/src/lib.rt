@@ -3,18 +3,21 @@
 #![tactic(auto)]
 
 ghost use Rattle.std.specs.Prelude.{◌≡◌, ◌*◌, ◌<◌, ◌^◌};
-ghost use Rattle.hns_encoding.specs.Format.{sum};
-ghost use Rattle.hns_p2p_types.specs.Packets.{fields_of};
-ghost use Rattle.hns_p2p_lists.specs.Helpers.{list_kind, locator_kind, inventory_of, locator_of, list_at, counted_of, list_packet, stop_packet};
+ghost use Rattle.hns_encoding.specs.Bytes.{to_end};
+ghost use Rattle.hns_encoding.specs.Format.{sum, read};
+ghost use Rattle.hns_encoding.specs.Answers.{result_of};
+ghost use Rattle.hns_p2p_types.specs.Protocol.{inventory};
+ghost use Rattle.hns_p2p_types.specs.Packets.{items_at, fields_of};
+ghost use Rattle.hns_p2p_lists.specs.Helpers.{list_at, made_of, whole_list, locator_of};
 
-use hns_encoding::Number;
 use hns_header_consensus::HEADER_SIZE;
-use hns_p2p_differences::Passed;
 use hns_p2p_types::{
     CompactBlockRequest, Items, LocatorPacket, MAX_ADDR_ITEMS, MAX_COMPACT_BLOCK_TRANSACTIONS,
     MAX_HEADERS, MAX_INVENTORY_ITEMS, MAX_LOCATOR_HASHES, NET_ADDRESS_SIZE, Packet,
 };
-use hns_refusals::Refusal;
+use hns_refusals::{
+    ADDRESS_FIELD, HEADER_FIELD, INDEX_COUNT_FIELD, INVENTORY_FIELD, LOCATOR_FIELD, Refusal,
+};
 
 // The Rust's limits, as counts are compared with them.
 const ADDRESSES: u64 = MAX_ADDR_ITEMS as u64;
@@ -27,191 +30,121 @@ const HEADERS: u64 = MAX_HEADERS as u64;
 
 const INDEXES: u64 = MAX_COMPACT_BLOCK_TRANSACTIONS as u64;
 
-// Items under a count and the place after them, or the refusal.
-#[derive(Clone, Copy)]
-enum Counted {
-    Items {
-        count: usize,
-        first: usize,
-        next: usize,
-    },
-    Refused(Refusal),
-}
-
-// A count of at most so many, and as many records of these widths. Where they do not all fit, the bytes end in the record
-// that begins last.
-fn read_list(payload: &[u8], limit: u64, field: u64, widths: &[usize], size: usize) -> Counted
+// A count of at most so many, and as many records of these widths, with the place after them. Where they do not all fit, the
+// bytes end in the record that begins last.
+#[tactic(auto, using(crate::proofs::Listed::list_refused, crate::proofs::Listed::list_product, crate::proofs::Listed::list_fits))]
+fn read_list(
+    payload: &[u8],
+    limit: u64,
+    field: u64,
+    widths: &[usize],
+    size: usize,
+) -> Result<(Items, usize), Refusal>
     requires { (size ≡ sum widths.now) × (0 < size) × (limit * size < 2 ^ 64) }
-    ensures { result ≡ counted_of (list_at limit field widths.now payload.now 0) }
+    ensures { result ≡ result_of (list_at limit field widths.now payload.now 0) }
 {
-    let read = hns_encoding::read_count(payload, 0, limit, field);
-    match read {
-        Number::Value(value, first) => {
-            let count = value as usize;
-            let bytes = count * size;
-            let there = hns_encoding::remaining(payload, first);
-            if there < bytes {
-                let whole = there - there % size;
-                let refusal = hns_p2p_blocks::ends_in(payload, widths, first + whole);
-                return Counted::Refused(refusal);
-            }
-            Counted::Items {
-                count,
-                first,
-                next: first + bytes,
-            }
-        }
-        Number::Refused(refusal) => Counted::Refused(refusal),
+    let (value, first) = hns_encoding::read_count(payload, 0, limit, field)?;
+    let count = value as usize;
+    let bytes = count * size;
+    let there = hns_encoding::remaining(payload, first);
+    if there < bytes {
+        let whole = there - there % size;
+        return Err(hns_p2p_blocks::ends_in(payload, widths, first + whole));
     }
+    Ok((Items { count, first }, first + bytes))
 }
 
-fn list_kind(packet_type: u8, items: Items) -> Packet
-    ensures { result ≡ list_kind packet_type items }
+// A list that is the whole payload.
+#[tactic(auto, using(crate::proofs::Listed::whole_refused, crate::proofs::Listed::whole_left, crate::proofs::Listed::whole_read))]
+fn read_whole(
+    payload: &[u8],
+    limit: u64,
+    field: u64,
+    widths: &[usize],
+    size: usize,
+) -> Result<Items, Refusal>
+    requires { (size ≡ sum widths.now) × (0 < size) × (limit * size < 2 ^ 64) }
+    ensures { result ≡ whole_list limit field widths.now payload.now }
 {
-    match packet_type {
-        5 => Packet::Addr(items),
-        6 => Packet::Inv(items),
-        7 => Packet::GetData(items),
-        8 => Packet::NotFound(items),
-        _ => Packet::Headers(items),
-    }
+    let (items, next) = read_list(payload, limit, field, widths, size)?;
+    hns_encoding::finish(payload, next)?;
+    Ok(items)
 }
 
-// A packet that is a list.
-fn list_packet(packet_type: u8, payload: &[u8], list: Counted) -> Packet
-    ensures { result ≡ list_packet packet_type payload.now list }
-{
-    match list {
-        Counted::Items { count, first, next } => {
-            let packet = list_kind(packet_type, Items { count, first });
-            hns_p2p_blocks::close(payload, next, packet)
-        }
-        Counted::Refused(refusal) => Packet::Refused(refusal),
-    }
-}
-
-fn locator_kind(packet_type: u8, locator: LocatorPacket) -> Packet
-    ensures { result ≡ locator_kind packet_type locator }
-{
-    if packet_type == 9 {
-        Packet::GetBlocks(locator)
-    } else {
-        Packet::GetHeaders(locator)
-    }
-}
-
-// A packet that is a list and a stop hash.
-fn stop_packet(packet_type: u8, payload: &[u8], list: Counted) -> Packet
-    ensures { result ≡ stop_packet packet_type payload.now list }
-{
-    match list {
-        Counted::Items { count, first, next } => {
-            let there = hns_encoding::remaining(payload, next);
-            if there < 32 {
-                return Packet::Refused(Refusal::unexpected_end(next, 32 - there));
-            }
-            let locator = Items { count, first };
-            let packet = LocatorPacket {
-                locator,
-                stop: next,
-            };
-            hns_p2p_blocks::close(payload, next + 32, locator_kind(packet_type, packet))
-        }
-        Counted::Refused(refusal) => Packet::Refused(refusal),
-    }
-}
-
-pub fn read_addr_fields(payload: &[u8]) -> Packet
+pub fn read_addr_fields(payload: &[u8]) -> Result<Packet, Refusal>
     ensures { result ≡ fields_of 5 payload.now }
 {
     let widths = [8, 4, 4, 1, 36, 2, 33];
-    list_packet(
-        5,
-        payload,
-        read_list(payload, ADDRESSES, 1, &widths, NET_ADDRESS_SIZE),
-    )
+    read_whole(payload, ADDRESSES, ADDRESS_FIELD, &widths, NET_ADDRESS_SIZE).map(Packet::Addr)
 }
 
 // An inventory, of type 6, 7 or 8.
-fn read_inventory(packet_type: u8, payload: &[u8]) -> Packet
-    ensures { result ≡ inventory_of packet_type payload.now }
+fn read_inventory(payload: &[u8]) -> Result<Items, Refusal>
+    ensures { result ≡ made_of (items_at 0) (to_end (read inventory) payload.now) }
 {
-    let list = read_list(payload, INVENTORY, 2, &[4, 32], 36);
-    list_packet(packet_type, payload, list)
+    read_whole(payload, INVENTORY, INVENTORY_FIELD, &[4, 32], 36)
 }
 
-pub fn read_inv_fields(payload: &[u8]) -> Packet
+pub fn read_inv_fields(payload: &[u8]) -> Result<Packet, Refusal>
     ensures { result ≡ fields_of 6 payload.now }
 {
-    read_inventory(6, payload)
+    read_inventory(payload).map(Packet::Inv)
 }
 
-pub fn read_getdata_fields(payload: &[u8]) -> Packet
+pub fn read_getdata_fields(payload: &[u8]) -> Result<Packet, Refusal>
     ensures { result ≡ fields_of 7 payload.now }
 {
-    read_inventory(7, payload)
+    read_inventory(payload).map(Packet::GetData)
 }
 
-pub fn read_notfound_fields(payload: &[u8]) -> Packet
+pub fn read_notfound_fields(payload: &[u8]) -> Result<Packet, Refusal>
     ensures { result ≡ fields_of 8 payload.now }
 {
-    read_inventory(8, payload)
+    read_inventory(payload).map(Packet::NotFound)
 }
 
-// A locator, of type 9 or 10.
-fn read_locator(packet_type: u8, payload: &[u8]) -> Packet
-    ensures { result ≡ locator_of packet_type payload.now }
+// A locator, of type 9 or 10: a list and a stop hash.
+#[tactic(auto, using(crate::proofs::Listed::locator_list, crate::proofs::Listed::locator_hash, crate::proofs::Listed::locator_left))]
+fn read_locator(payload: &[u8]) -> Result<LocatorPacket, Refusal>
+    ensures { result ≡ locator_of payload.now }
 {
-    let list = read_list(payload, HASHES, 3, &[32], 32);
-    stop_packet(packet_type, payload, list)
+    let (locator, next) = read_list(payload, HASHES, LOCATOR_FIELD, &[32], 32)?;
+    let hash = hns_encoding::read_slice(payload, next, 32)?;
+    hns_encoding::finish(payload, hash.end)?;
+    let stop = hash.start;
+    Ok(LocatorPacket { locator, stop })
 }
 
-pub fn read_getblocks_fields(payload: &[u8]) -> Packet
+pub fn read_getblocks_fields(payload: &[u8]) -> Result<Packet, Refusal>
     ensures { result ≡ fields_of 9 payload.now }
 {
-    read_locator(9, payload)
+    read_locator(payload).map(Packet::GetBlocks)
 }
 
-pub fn read_getheaders_fields(payload: &[u8]) -> Packet
+pub fn read_getheaders_fields(payload: &[u8]) -> Result<Packet, Refusal>
     ensures { result ≡ fields_of 10 payload.now }
 {
-    read_locator(10, payload)
+    read_locator(payload).map(Packet::GetHeaders)
 }
 
-pub fn read_headers_fields(payload: &[u8]) -> Packet
+pub fn read_headers_fields(payload: &[u8]) -> Result<Packet, Refusal>
     ensures { result ≡ fields_of 11 payload.now }
 {
-    list_packet(
-        11,
-        payload,
-        read_list(payload, HEADERS, 4, &[HEADER_SIZE], HEADER_SIZE),
-    )
+    read_whole(payload, HEADERS, HEADER_FIELD, &[HEADER_SIZE], HEADER_SIZE).map(Packet::Headers)
 }
 
-pub fn read_getblocktxn_fields(payload: &[u8]) -> Packet
+#[tactic(auto, using(crate::proofs::Requests::txn_short, crate::proofs::Requests::txn_count, crate::proofs::Requests::txn_index, crate::proofs::Requests::txn_left))]
+pub fn read_getblocktxn_fields(payload: &[u8]) -> Result<Packet, Refusal>
     ensures { result ≡ fields_of 24 payload.now }
 {
-    let there = payload.len();
-    if there < 32 {
-        return Packet::Refused(Refusal::unexpected_end(0, 32 - there));
-    }
-    let read = hns_encoding::read_count(payload, 32, INDEXES, 5);
-    match read {
-        Number::Value(value, first) => {
-            let passed = hns_p2p_differences::pass_indexes(payload, value, first);
-            match passed {
-                Passed::To { next, last: _ } => {
-                    let count = value as usize;
-                    let indexes = Items { count, first };
-                    let request = CompactBlockRequest {
-                        block_hash: 0,
-                        indexes,
-                    };
-                    hns_p2p_blocks::close(payload, next, Packet::GetBlockTxn(request))
-                }
-                Passed::Refused(refusal) => Packet::Refused(refusal),
-            }
-        }
-        Number::Refused(refusal) => Packet::Refused(refusal),
-    }
+    let hash = hns_encoding::read_slice(payload, 0, 32)?;
+    let (value, first) = hns_encoding::read_count(payload, hash.end, INDEXES, INDEX_COUNT_FIELD)?;
+    let passed = hns_p2p_differences::pass_indexes(payload, value, first)?;
+    hns_encoding::finish(payload, passed.next)?;
+    let count = value as usize;
+    let indexes = Items { count, first };
+    Ok(Packet::GetBlockTxn(CompactBlockRequest {
+        block_hash: hash.start,
+        indexes,
+    }))
 }

@@ -5,8 +5,10 @@ use mathlib.Core.List.{List, [], ◌∷◌, map, map-append}
 use mathlib.Core.Logic.{⊎_elim}
 use native.Mathlib.Omega.{arith}
 use native.Mathlib.Nat.{zero-add}
-use lib.ListN.{length, get_or, set}
+use lib.ListN.{length, get_or, set, length-set}
 use borrow.Author.Tests.{le-leb, lt-leb}
+use Rattle.std.specs.Prelude.{Result, Ok, Err, take}
+use lib.Seq.{take_all}
 use Rattle.hns_refusals.specs.declared.Refusal.{Refusal}
 use Rattle.hns_refusals.specs.Refusals.{output_short}
 use Rattle.hns_encoding.specs.Bytes.{Outcome, got, stop, part, left, number_at, to_end}
@@ -18,8 +20,6 @@ use Rattle.hns_encoding.proofs.Puts.{splice_none, splice_append, splice_byte}
 use Rattle.hns_p2p_types.specs.declared.Span.{Span}
 use Rattle.hns_p2p_types.specs.declared.Packet.{Packet}
 use Rattle.hns_p2p_types.specs.declared.Packet.TheVariants as P
-use Rattle.hns_p2p_types.specs.declared.VersionPacket.{VersionPacket}
-use Rattle.hns_p2p_types.specs.declared.RejectPacket.{RejectPacket}
 use Rattle.hns_p2p_types.specs.Protocol.{version, reject}
 use Rattle.hns_p2p_types.specs.Packets.{◌&◌, entry, Row, worded, raw_bytes, version_packet, reject_packet, agent_of, reason_of, rows, row, layout, answered, Answer, texted, answer_by}
 use Rattle.hns_p2p_rights.specs.Terms.{Terms}
@@ -31,50 +31,26 @@ use Rattle.hns_p2p_blocks.proofs.Packets.{text_length, reject_flat}
 
 -- ---- masked bytes to the output's front
 
-pub mask_none : (o s : List ℕ) (p : ℕ) → o ≡ splice o 0 (map low7 (part s p 0))
-mask_none o s p = sym (splice_none o 0)
+-- i are masked
+pub record Masked (o bs o' : List ℕ) (i : ℕ) : Type 0 where
+  pub long : length o' ≡ length o
+  pub same : o' ≡ splice o 0 (map low7 (take i bs))
 
-pub mask_next : (o s : List ℕ) (p i : ℕ) → p + i < length s → {o' : List ℕ} → o' ≡ splice o 0 (map low7 (part s p i)) → set o' i (get_or s (p + i) 0 % 128) ≡ splice o 0 (map low7 (part s p (i + 1)))
-mask_next o s p i h e =
-    let long : length (map low7 (part s p i)) ≡ i = text_length s p i (omega arith) in
-    rw (part_add s p i 1, byte_part s (p + i) h, map-append low7 (part s p i) (get_or s (p + i) 0 ∷ []), splice_append, zero-add, long, ← e, splice_byte)
+pub mask_none : (o bs : List ℕ) → Masked o bs o 0
+mask_none o bs = record { long = refl; same = sym (splice_none o 0) }
 
--- ---- a packet that is neither of the two has no text
+pub mask_next : (o bs : List ℕ) (i : ℕ) {o' : List ℕ} → Masked o bs o' i → i < length bs → Masked o bs (set o' i (get_or bs i 0 % 128)) (i + 1)
+mask_next o bs i t h =
+    let long : length (map low7 (part bs 0 i)) ≡ i = text_length bs 0 i (omega arith) in
+    let next : 0 + i ≡ i = omega arith in
+    let byte : part bs (0 + i) 1 ≡ get_or bs i 0 ∷ [] = rw next (byte_part bs i h) in
+    record {
+      long = length-set _ _ _ ∙ t.long;
+      same = rw (part_add bs 0 i 1, byte, map-append low7 (part bs 0 i) (get_or bs i 0 ∷ []), splice_append, zero-add, long, ← t.same, splice_byte);
+    }
 
-pub spanless : (p : Packet) → ((v : VersionPacket) → p ≡ P.Version v → ⊥) → ((r : RejectPacket) → p ≡ P.Reject r → ⊥) → no_span ≡ text_span p
-unfolding text_span
-spanless (P.Version v) a b = absurd (a v refl)
-spanless (P.Reject r) a b = absurd (b r refl)
-spanless P.Verack a b = refl
-spanless (P.Ping x) a b = refl
-spanless (P.Pong x) a b = refl
-spanless P.GetAddr a b = refl
-spanless (P.Addr x) a b = refl
-spanless (P.Inv x) a b = refl
-spanless (P.GetData x) a b = refl
-spanless (P.NotFound x) a b = refl
-spanless (P.GetBlocks x) a b = refl
-spanless (P.GetHeaders x) a b = refl
-spanless (P.Headers x) a b = refl
-spanless P.SendHeaders a b = refl
-spanless (P.Block x) a b = refl
-spanless (P.Tx x) a b = refl
-spanless P.Mempool a b = refl
-spanless (P.FilterLoad x) a b = refl
-spanless (P.FilterAdd x) a b = refl
-spanless P.FilterClear a b = refl
-spanless (P.MerkleBlock x) a b = refl
-spanless (P.FeeFilter x) a b = refl
-spanless (P.CmpctBlock x) a b = refl
-spanless (P.GetBlockTxn x) a b = refl
-spanless (P.BlockTxn x) a b = refl
-spanless (P.GetProof x) a b = refl
-spanless (P.Proof x) a b = refl
-spanless (P.Claim x) a b = refl
-spanless (P.Airdrop x) a b = refl
-spanless (P.Refused x) a b = refl
-spanless (P.SendCmpct x y) a b = refl
-spanless (P.Unknown x y) a b = refl
+pub mask_all : (o bs : List ℕ) (i : ℕ) {o' : List ℕ} → Masked o bs o' i → length bs ≤ i → o' ≡ splice o 0 (map low7 bs)
+mask_all o bs i t h = rw (take_all i bs h) at t.same
 
 -- ---- where a text stands
 
@@ -161,57 +137,76 @@ row_words t = entry Words rows (raw_bytes (P.Unknown t)) t all_words (plain (λ 
 -- ---- what an output does to a reading
 
 -- the packet's text stands at its span, and the answer is the packet with that text
-pub record Texts (u : Terms) (t : ℕ) (s : List ℕ) : Type 0 where
+pub record Texts (u : Terms) (t : ℕ) (s : List ℕ) (packet : Packet) : Type 0 where
   pub text : List ℕ
-  pub stands : Stands s (text_span (packet_under u t s)) text
-  pub says : (o : List ℕ) → texted (packet_under u t s) text o ≡ read_packet_under u t s o
+  pub stands : Stands s (text_span packet) text
+  pub says : (o : List ℕ) → texted packet text o ≡ read_packet_under u t s o
 
-refused_text : (r : Refusal) (o : List ℕ) → texted (P.Refused r) [] o ≡ record { packet = P.Refused r; text = o }
-unfolding texted
-refused_text r o = rw (le-leb 0 (length o) (omega arith), splice_none o 0)
+module _ (u : Terms) (t : ℕ) (s : List ℕ) {read : Result Packet Refusal} (e : read ≡ packet_under u t s) where
+  pub texts : {packet : Packet} → read ≡ Ok packet → Texts u t s packet
+  unfolding packet_under read_packet_under
+  texts {packet} g = go (read_under u t s) refl
+    where
+      go : (o : Outcome (Value (layout t (length s)))) → read_under u t s ≡ o → Texts u t s packet
+      go (got v last) h =
+          let is : Ok packet ≡ Ok ((row t).packet s v) = sym g ∙ e ∙ ap (answered ((row t).packet s)) h in
+          let same : (row t).packet s v ≡ packet = cc in
+          record {
+            text = (row t).text s v;
+            stands = subst (λ (p : Packet). Stands s (text_span p) ((row t).text s v)) same ((row_words t).words s v last (under_got u t s h).whole);
+            says = λ o. ap (λ (p : Packet). texted p ((row t).text s v) o) (sym same) ∙ sym (ap (λ (q : Outcome (Value (layout t (length s)))). answer_by ((row t).packet s) ((row t).text s) q o) h);
+          }
+      go (stop r) h = let is : Ok packet ≡ Err r = sym g ∙ e ∙ ap (answered ((row t).packet s)) h in cc
 
-pub texts : (u : Terms) (t : ℕ) (s : List ℕ) → Texts u t s
-unfolding packet_under read_packet_under text_span
-texts u t s = go (read_under u t s) refl
-  where
-    go : (o : Outcome (Value (layout t (length s)))) → read_under u t s ≡ o → Texts u t s
-    go (got v last) e =
-        let is : packet_under u t s ≡ (row t).packet s v = ap (answered ((row t).packet s)) e in
-        record {
-          text = (row t).text s v;
-          stands = subst (λ (p : Packet). Stands s (text_span p) ((row t).text s v)) (sym is) ((row_words t).words s v last (under_got u t s e).whole);
-          says = λ o. ap (λ (p : Packet). texted p ((row t).text s v) o) is ∙ sym (ap (λ (q : Outcome (Value (layout t (length s)))). answer_by ((row t).packet s) ((row t).text s) q o) e);
-        }
-    go (stop r) e =
-        let is : packet_under u t s ≡ P.Refused r = ap (answered ((row t).packet s)) e in
-        record {
-          text = [];
-          stands = subst (λ (p : Packet). Stands s (text_span p) []) (sym is) (nowhere s);
-          says = λ o. ap (λ (p : Packet). texted p [] o) is ∙ (refused_text r o ∙ sym (ap (λ (q : Outcome (Value (layout t (length s)))). answer_by ((row t).packet s) ((row t).text s) q o) e));
-        }
+  -- nothing is stored where the packet is refused
+  refused : {r : Refusal} → read ≡ Err r → (o : List ℕ) → record { packet = Err r; text = o } ≡ read_packet_under u t s o
+  unfolding packet_under read_packet_under
+  refused {r} g o = go (read_under u t s) refl
+    where
+      go : (x : Outcome (Value (layout t (length s)))) → read_under u t s ≡ x → record { packet = Err r; text = o } ≡ answer_by ((row t).packet s) ((row t).text s) (read_under u t s) o
+      go (got v last) h = let is : Err r ≡ Ok ((row t).packet s v) = sym g ∙ e ∙ ap (answered ((row t).packet s)) h in cc
+      go (stop q) h =
+          let is : Err r ≡ Err q = sym g ∙ e ∙ ap (answered ((row t).packet s)) h in
+          let same : r ≡ q = cc in
+          rw (h, same)
 
--- the span of a packet's text, and the answers by whether the output is long enough
-module _ (u : Terms) (t : ℕ) (s : List ℕ) {packet : Packet} {span : Span} (ep : packet ≡ packet_under u t s) (es : span ≡ text_span packet) where
-  there : Stands s span (texts u t s).text
-  there = subst (λ (k : Span). Stands s k (texts u t s).text) (sym (es ∙ ap text_span ep)) (texts u t s).stands
+  pub refused_packet : {r : Refusal} → read ≡ Err r → (o : List ℕ) → Err r ≡ (read_packet_under u t s o).packet
+  refused_packet g o = ap (λ (x : Answer). x.packet) (refused g o)
 
-  pub text_inside : span.start + span.length ≤ length s
-  text_inside = there.inside
+  pub refused_text : {r : Refusal} → read ≡ Err r → (o : List ℕ) → o ≡ (read_packet_under u t s o).text
+  refused_text g o = ap (λ (x : Answer). x.text) (refused g o)
 
-  size : length (texts u t s).text ≡ span.length
-  size = ap length there.same ∙ text_length s span.start span.length there.inside
+  -- the span of a packet's text, and the answers by whether the output is long enough
+  module _ {packet : Packet} (g : read ≡ Ok packet) {span : Span} (es : span ≡ text_span packet) where
+    there : Stands s span (texts g).text
+    there = subst (λ (k : Span). Stands s k (texts g).text) (sym es) (texts g).stands
 
-  pub text_short : (o : List ℕ) → length o < span.length → {r : Refusal} → r ≡ output_short span.length → (P.Refused r ≡ (read_packet_under u t s o).packet) × (o ≡ (read_packet_under u t s o).text)
-  unfolding texted
-  text_short o h {r} e =
-      let over : length o < length (texts u t s).text = omega (arith, size) in
-      let is : record { packet = P.Refused (output_short (length (texts u t s).text)); text = o } ≡ read_packet_under u t s o = rw (lt-leb (length (texts u t s).text) (length o) over) at ((texts u t s).says o) in
-      let why : r ≡ output_short (length (texts u t s).text) = e ∙ ap output_short (sym size) in
-      (ap P.Refused why ∙ ap (λ (x : Answer). x.packet) is, ap (λ (x : Answer). x.text) is)
+    pub text_inside : span.start + span.length ≤ length s
+    text_inside = there.inside
 
-  pub text_fits : (o : List ℕ) → span.length ≤ length o → {o' : List ℕ} → o' ≡ splice o 0 (map low7 (part s span.start span.length)) → (packet ≡ (read_packet_under u t s o).packet) × (o' ≡ (read_packet_under u t s o).text)
-  unfolding texted
-  text_fits o h e =
-      let fits : length (texts u t s).text ≤ length o = omega (arith, size) in
-      let is : record { packet = packet_under u t s; text = splice o 0 (texts u t s).text } ≡ read_packet_under u t s o = rw (le-leb (length (texts u t s).text) (length o) fits) at ((texts u t s).says o) in
-      (ep ∙ ap (λ (x : Answer). x.packet) is, e ∙ (ap (splice o 0) (sym there.same) ∙ ap (λ (x : Answer). x.text) is))
+    size : length (texts g).text ≡ span.length
+    size = ap length there.same ∙ text_length s span.start span.length there.inside
+
+    short : (o : List ℕ) → length o < span.length → record { packet = Err (output_short span.length); text = o } ≡ read_packet_under u t s o
+    unfolding texted
+    short o h =
+        let over : length o < length (texts g).text = omega (arith, size) in
+        rw (← size) (rw (lt-leb (length (texts g).text) (length o) over) at ((texts g).says o))
+
+    pub short_packet : (o : List ℕ) → length o < span.length → Err (output_short span.length) ≡ (read_packet_under u t s o).packet
+    short_packet o h = ap (λ (x : Answer). x.packet) (short o h)
+
+    pub short_text : (o : List ℕ) → length o < span.length → o ≡ (read_packet_under u t s o).text
+    short_text o h = ap (λ (x : Answer). x.text) (short o h)
+
+    fits : (o : List ℕ) → span.length ≤ length o → record { packet = Ok packet; text = splice o 0 (texts g).text } ≡ read_packet_under u t s o
+    unfolding texted
+    fits o h =
+        let fits : length (texts g).text ≤ length o = omega (arith, size) in
+        rw (le-leb (length (texts g).text) (length o) fits) at ((texts g).says o)
+
+    pub fits_packet : (o : List ℕ) → span.length ≤ length o → Ok packet ≡ (read_packet_under u t s o).packet
+    fits_packet o h = ap (λ (x : Answer). x.packet) (fits o h)
+
+    pub fits_text : (o : List ℕ) → span.length ≤ length o → {n : ℕ} {o' : List ℕ} → n ≡ span.length → o' ≡ splice o 0 (map low7 (part s span.start n)) → o' ≡ (read_packet_under u t s o).text
+    fits_text o h en e = e ∙ (ap (λ (k : ℕ). splice o 0 (map low7 (part s span.start k))) en ∙ (ap (splice o 0) (sym there.same) ∙ ap (λ (x : Answer). x.text) (fits o h)))

@@ -36,6 +36,5 @@ text_span (P.GetProof x) = no_span
 text_span (P.Proof x) = no_span
 text_span (P.Claim x) = no_span
 text_span (P.Airdrop x) = no_span
-text_span (P.Refused x) = no_span
 text_span (P.SendCmpct mode number) = no_span
 text_span (P.Unknown t span) = no_span

@@ -3,10 +3,9 @@ use Prim.Native.Nat.{ℕ}
 use mathlib.Core.Path.{◌≡◌, sym, ap, subst}
 use lib.Dec.{ltb}
 use borrow.Author.Tests.{lt-ltb, le-ltb, ltb-true, ltb-false}
-use Rattle.hns_refusals.specs.declared.Checked.{Checked}
+use Rattle.std.specs.Prelude.{Ok}
+use Rattle.hns_refusals.specs.Refusals.{Answer}
 use Rattle.hns_encoding.proofs.Outcomes.{choose_holds}
-use Rattle.hns_p2p_rights.specs.declared.Granted.{Granted}
-use Rattle.hns_p2p_rights.specs.declared.Granted.TheVariants as G
 use Rattle.hns_p2p_rights.specs.Terms.{Terms, own_mask}
 use Rattle.hns_p2p_rights.specs.Rights.{granted, may_send, types_granted}
 use Rattle.hns_p2p_rights.specs.Claims.{SendingIs, if_no_role, if_not_granted, if_may_send, CountIs, no_count, types, Conditions}
@@ -22,7 +21,7 @@ sending_is u t =
     (λ e. if_no_role (ltb-false u.role 8 e))
 
 -- and no other answer does
-pub sending_only : {u : Terms} {t : ℕ} {a : Checked} → SendingIs u t a → a ≡ may_send u t
+pub sending_only : {u : Terms} {t : ℕ} {a : Answer (Unit {0})} → SendingIs u t a → a ≡ may_send u t
 unfolding may_send
 sending_only {u} (if_no_role h) = rw (le-ltb u.role 8 h)
 sending_only {u} (if_not_granted h g) = rw (lt-ltb u.role 8 h, g)
@@ -32,13 +31,13 @@ count_is : (u : Terms) → CountIs u (types_granted u)
 unfolding types_granted
 count_is u =
     choose_holds (CountIs u) (ltb u.role 8)
-    (λ e. subst (λ (n : ℕ). CountIs u (G.Types n)) (ones_are_types (own_mask u)) (types (ltb-true u.role 8 e)))
+    (λ e. subst (λ (n : ℕ). CountIs u (Ok n)) (ones_are_types (own_mask u)) (types (ltb-true u.role 8 e)))
     (λ e. no_count (ltb-false u.role 8 e))
 
-pub count_only : {u : Terms} {a : Granted} → CountIs u a → a ≡ types_granted u
+pub count_only : {u : Terms} {a : Answer ℕ} → CountIs u a → a ≡ types_granted u
 unfolding types_granted
 count_only {u} (no_count h) = rw (le-ltb u.role 8 h)
-count_only {u} (types h) = rw (lt-ltb u.role 8 h) (ap G.Types (ones_are_types (own_mask u)))
+count_only {u} (types h) = rw (lt-ltb u.role 8 h) (ap Ok (ones_are_types (own_mask u)))
 
 pub conditions : Conditions
 conditions =

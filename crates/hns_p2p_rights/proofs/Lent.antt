@@ -1,37 +1,29 @@
--- The role and the masks among the numbers that are lent. Assumes nothing.
-use Prim.Native.Nat.{ℕ, ◌+◌, ◌<◌}
-use mathlib.Core.Path.{◌≡◌, refl, sym, ap, ◌∙◌}
+-- The mask of the role among the numbers that are lent. Assumes nothing.
+use Prim.Native.Nat.{ℕ, ◌≤◌, ◌<◌}
+use mathlib.Core.Path.{◌≡◌, refl}
 use mathlib.Core.List.{List, [], ◌∷◌}
 use native.Mathlib.Omega.{arith}
-use native.Mathlib.Numerals.{add-one}
-use lib.ListN.{length, get_or, get_or-replicate}
-use lib.Seq.{get_or-take}
-use borrow.Author.Tests.{le-leb, lt-leb}
+use lib.ListN.{length, get_or, take}
+use borrow.Author.Tests.{lt-ltb, le-ltb, le-leb, lt-leb}
+use Rattle.std.specs.Prelude.{Ok, Err}
+use Rattle.hns_refusals.specs.Refusals.{no_role}
 use Rattle.hns_p2p_rights.specs.Terms.{full_mask, terms_of}
+use Rattle.hns_p2p_rights.specs.Helpers.{own}
 
-pub no_role_lent : (l : List ℕ) → length l ≡ 0 → 0 ≡ (terms_of l).role
-unfolding terms_of
-no_role_lent [] h = refl
-no_role_lent (x ∷ l) h = absurd (omega arith)
+pub own_unnamed : (l : List ℕ) → length l ≡ 0 → Ok full_mask ≡ own (terms_of l)
+unfolding own terms_of
+own_unnamed [] h = refl
+own_unnamed (x ∷ l) h = absurd (omega arith)
 
-pub role_lent : (l : List ℕ) → 0 < length l → get_or l 0 0 ≡ (terms_of l).role
-unfolding terms_of
-role_lent [] h = absurd (omega arith)
-role_lent (x ∷ l) h = refl
+module _ (l : List ℕ) {role : ℕ} {masks : List ℕ} (is : l ≡ role ∷ masks) where
+  pub own_no_role : 8 ≤ role → Err no_role ≡ own (terms_of l)
+  unfolding own terms_of
+  own_no_role h = rw is (simp (le-ltb role 8 h))
 
-module _ (k : ℕ) (b : k < 8) where
-  pub no_mask_lent : (l : List ℕ) → length l ≡ 0 → full_mask ≡ get_or (terms_of l).masks k 0
-  unfolding terms_of
-  no_mask_lent [] h = sym (get_or-replicate 8 k full_mask 0 b)
-  no_mask_lent (x ∷ l) h = absurd (omega arith)
+  pub own_cut : role < 8 → length masks < 8 → Ok 0 ≡ own (terms_of l)
+  unfolding own terms_of
+  own_cut h c = rw is (simp (lt-ltb role 8 h, lt-leb 8 (length masks) c))
 
-  pub mask_lent : (l : List ℕ) → 8 < length l → get_or l (k + 1) 0 ≡ get_or (terms_of l).masks k 0
-  unfolding terms_of
-  mask_lent [] h = absurd (omega arith)
-  mask_lent (x ∷ l) h = rw (le-leb 8 (length l) (omega arith)) (ap (λ (n : ℕ). get_or (x ∷ l) n 0) (add-one k) ∙ sym (get_or-take 8 l k 0 b))
-
--- terms that were cut
-pub mask_cut : (k : ℕ) (l : List ℕ) → 0 < length l → length l < 9 → 0 ≡ get_or (terms_of l).masks k 0
-unfolding terms_of
-mask_cut k [] h c = absurd (omega arith)
-mask_cut k (x ∷ l) h c = rw (lt-leb 8 (length l) (omega arith))
+  pub own_lent : role < 8 → 8 ≤ length masks → {eight : List ℕ} → eight ≡ take 8 masks → Ok (get_or eight role 0) ≡ own (terms_of l)
+  unfolding own terms_of
+  own_lent h c e = rw (is, e) (simp (lt-ltb role 8 h, le-leb 8 (length masks) c))

@@ -1,4 +1,4 @@
+pub mod Lent
 pub mod Masks
 pub mod Conditions
-pub mod Lent
 pub mod Answers

@@ -10,13 +10,13 @@ use native.Mathlib.Decide.{ℕ_discrete}
 use lib.ListN.{length, get_or, set, take, length-set}
 use lib.Bits.{bit_or, or_shr, or_mod}
 use lib.Count.{ones, ones_cat, ones-ones}
+use Rattle.std.specs.Prelude.{Ok, Err}
 use lib.Pow.{mod-pow-add, pow_pos, field, mod-mod-pow}
 use lib.Dec.{ltb, leb, eqb}
 use borrow.Author.Tests.{lt-ltb, le-ltb, eqb-true, eq-eqb}
 use Rattle.hns_encoding.specs.Bytes.{choose}
 use Rattle.hns_encoding.proofs.Numbers.{lt_or_ge}
-use Rattle.hns_refusals.specs.Refusals.{no_role, not_granted}
-use Rattle.hns_refusals.specs.declared.Checked.TheVariants as C
+use Rattle.hns_refusals.specs.Refusals.{Answer, no_role, not_granted}
 use Rattle.hns_p2p_rights.specs.Terms.{own_mask, full_mask, terms_of}
 use Rattle.hns_p2p_rights.specs.Rights.{bit, bit_of, granted, count_below, may_send, types_granted}
 use Rattle.hns_p2p_rights.specs.Claims.{OnesAreTypes, AlikeIsSame, OtherMask, StillGranted, GrantingLent, FullMask}
@@ -129,10 +129,10 @@ bit_or_lem a b k h =
     eq-eqb (bit_or a b / 2 ^ k % 2) 1
     (ap (λ (x : ℕ). x % 2) (or_shr a b k) ∙ (or_mod (a / 2 ^ k) (b / 2 ^ k) 1 ∙ (ap (λ (x : ℕ). bit_or x (b / 2 ^ k % 2)) e ∙ or_one (b / 2 ^ k % 2) (omega arith))))
 
-allowed : (a b : Bool) → choose a (choose b C.Passed (C.Refused not_granted)) (C.Refused no_role) ≡ C.Passed → (a ≡ true) × (b ≡ true)
+allowed : (a b : Bool) → ◌≡◌ {A = Answer (Unit {0})} (choose a (choose b (Ok tt) (Err not_granted)) (Err no_role)) (Ok tt) → (a ≡ true) × (b ≡ true)
 allowed true true e = (refl, refl)
-allowed true false e = let z : ◌≡◌ {A = ℕ} 0 1 = cc in absurd (omega arith)
-allowed false b e = let z : ◌≡◌ {A = ℕ} 0 1 = cc in absurd (omega arith)
+allowed true false e = cc
+allowed false b e = cc
 
 pub still_granted : StillGranted
 unfolding may_send granted

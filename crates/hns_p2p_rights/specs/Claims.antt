@@ -1,12 +1,8 @@
 -- Document 02, T-02: what the definitions promise together, each by a theorem of proofs/.
-use Rattle.std.specs.Prelude.{ℕ, ◌%◌, ◌^◌, ◌≤◌, ◌<◌, ◌≡◌, true, false, List, [], ◌∷◌, ◌↔◌, set, get_or}
+use Rattle.std.specs.Prelude.{ℕ, ◌%◌, ◌^◌, ◌≤◌, ◌<◌, ◌≡◌, true, false, List, [], ◌∷◌, ◌↔◌, set, get_or, Ok, Err}
 use Rattle.std.specs.Int.Bits.{bit_or}
 use Rattle.std.specs.Int.Count.{ones}
-use Rattle.hns_refusals.specs.declared.Checked.{Checked}
-use Rattle.hns_refusals.specs.declared.Checked.TheVariants as C
-use Rattle.hns_refusals.specs.Refusals.{no_role, not_granted}
-use Rattle.hns_p2p_rights.specs.declared.Granted.{Granted}
-use Rattle.hns_p2p_rights.specs.declared.Granted.TheVariants as G
+use Rattle.hns_refusals.specs.Refusals.{Answer, no_role, not_granted}
 use Rattle.hns_p2p_rights.specs.Terms.{Terms, own_mask, Full, terms_of}
 use Rattle.hns_p2p_rights.specs.Rights.{granted, count_below, may_send, types_granted}
 
@@ -17,14 +13,14 @@ pub record MaySend (u : Terms) (t : ℕ) : Type 0 where
   pub a_role : u.role < 8
   pub a_grant : granted (own_mask u) t ≡ true
 
-pub data SendingIs (u : Terms) (t : ℕ) : Checked → Type 0 where
-  if_no_role : 8 ≤ u.role → SendingIs u t (C.Refused no_role)
-  if_not_granted : u.role < 8 → granted (own_mask u) t ≡ false → SendingIs u t (C.Refused not_granted)
-  if_may_send : MaySend u t → SendingIs u t C.Passed
+pub data SendingIs (u : Terms) (t : ℕ) : Answer (Unit {0}) → Type 0 where
+  if_no_role : 8 ≤ u.role → SendingIs u t (Err no_role)
+  if_not_granted : u.role < 8 → granted (own_mask u) t ≡ false → SendingIs u t (Err not_granted)
+  if_may_send : MaySend u t → SendingIs u t (Ok tt)
 
-pub data CountIs (u : Terms) : Granted → Type 0 where
-  no_count : 8 ≤ u.role → CountIs u (G.Refused no_role)
-  types : u.role < 8 → CountIs u (G.Types (ones (own_mask u % 2 ^ 31)))
+pub data CountIs (u : Terms) : Answer ℕ → Type 0 where
+  no_count : 8 ≤ u.role → CountIs u (Err no_role)
+  types : u.role < 8 → CountIs u (Ok (ones (own_mask u % 2 ^ 31)))
 
 -- `ones_are_types`: the granted types are as many as the ones among the mask's 31 bits
 abbrev pub OnesAreTypes : Type 0
@@ -32,8 +28,8 @@ OnesAreTypes = (mask : ℕ) → ones (mask % 2 ^ 31) ≡ count_below 31 (granted
 
 -- `conditions` of proofs/Conditions.antt
 pub record Conditions : Type 0 where
-  pub sending : (u : Terms) (t : ℕ) (a : Checked) → SendingIs u t a ↔ (a ≡ may_send u t)
-  pub counting : (u : Terms) (a : Granted) → CountIs u a ↔ (a ≡ types_granted u)
+  pub sending : (u : Terms) (t : ℕ) (a : Answer (Unit {0})) → SendingIs u t a ↔ (a ≡ may_send u t)
+  pub counting : (u : Terms) (a : Answer ℕ) → CountIs u a ↔ (a ≡ types_granted u)
 
 -- ---- terms that no call tells apart
 
@@ -62,7 +58,7 @@ granting u role bits = record { role = u.role; masks = set u.masks role (bit_or 
 
 -- `still_granted` of proofs/Masks.antt: they turn no permitted frame away
 abbrev pub StillGranted : Type 0
-StillGranted = (u : Terms) (t role bits : ℕ) → may_send u t ≡ C.Passed → may_send (granting u role bits) t ≡ C.Passed
+StillGranted = (u : Terms) (t role bits : ℕ) → may_send u t ≡ Ok tt → may_send (granting u role bits) t ≡ Ok tt
 
 -- `granting_lent` of proofs/Masks.antt: among the lent numbers they are bits of the role's number
 abbrev pub GrantingLent : Type 0
@@ -72,6 +68,6 @@ GrantingLent = (role k bits : ℕ) (masks : List ℕ) → terms_of (role ∷ set
 
 -- `full` of proofs/Masks.antt: every type byte may be sent, and there are 31 types; no numbers at all are such terms
 pub record FullMask : Type 0 where
-  pub sending : (u : Terms) → Full u → (t : ℕ) → may_send u t ≡ C.Passed
-  pub counting : (u : Terms) → Full u → types_granted u ≡ G.Types 31
+  pub sending : (u : Terms) → Full u → (t : ℕ) → may_send u t ≡ Ok tt
+  pub counting : (u : Terms) → Full u → types_granted u ≡ Ok 31
   pub no_numbers : Full (terms_of [])

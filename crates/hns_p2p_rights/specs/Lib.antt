@@ -1,3 +1,4 @@
 pub mod Terms
 pub mod Rights
 pub mod Claims
+pub mod Helpers

@@ -1,11 +1,7 @@
 -- Document 02, T-02, rights by role: what a mask grants, and what the calls answer.
-use Rattle.std.specs.Prelude.{ℕ, zero, suc, ◌+◌, ◌/◌, ◌%◌, ◌^◌, Bool, ltb, eqb}
-use Rattle.hns_refusals.specs.declared.Checked.{Checked}
-use Rattle.hns_refusals.specs.declared.Checked.TheVariants as C
-use Rattle.hns_refusals.specs.Refusals.{no_role, not_granted}
+use Rattle.std.specs.Prelude.{ℕ, zero, suc, ◌+◌, ◌/◌, ◌%◌, ◌^◌, Bool, ltb, eqb, Ok, Err}
+use Rattle.hns_refusals.specs.Refusals.{Answer, no_role, not_granted}
 use Rattle.hns_encoding.specs.Bytes.{choose}
-use Rattle.hns_p2p_rights.specs.declared.Granted.{Granted}
-use Rattle.hns_p2p_rights.specs.declared.Granted.TheVariants as G
 use Rattle.hns_p2p_rights.specs.Terms.{Terms, own_mask}
 
 -- a bit of a mask is set
@@ -25,9 +21,9 @@ count_below zero test = 0
 count_below (suc n) test = choose (test n) 1 0 + count_below n test
 
 -- 21, then 22
-unfoldable pub may_send : Terms → ℕ → Checked
-may_send u t = choose (ltb u.role 8) (choose (granted (own_mask u) t) C.Passed (C.Refused not_granted)) (C.Refused no_role)
+unfoldable pub may_send : Terms → ℕ → Answer (Unit {0})
+may_send u t = choose (ltb u.role 8) (choose (granted (own_mask u) t) (Ok tt) (Err not_granted)) (Err no_role)
 
 -- of the types 0 to 30, of which 30 stands for every other type byte
-unfoldable pub types_granted : Terms → Granted
-types_granted u = choose (ltb u.role 8) (G.Types (count_below 31 (granted (own_mask u)))) (G.Refused no_role)
+unfoldable pub types_granted : Terms → Answer ℕ
+types_granted u = choose (ltb u.role 8) (Ok (count_below 31 (granted (own_mask u)))) (Err no_role)

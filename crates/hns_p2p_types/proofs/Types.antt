@@ -1,6 +1,6 @@
 -- Packet types and inventory kinds, there and back. Assumes nothing.
 use Prim.Native.Nat.{ℕ, zero, suc, ◌+◌, ◌≤◌}
-use mathlib.Core.Path.{◌≡◌, refl, sym, ap, ◌∙◌}
+use mathlib.Core.Path.{◌≡◌, refl, sym, ◌∙◌}
 use mathlib.Core.List.{List, [], ◌∷◌}
 use native.Mathlib.Omega.{arith}
 use lib.ListN.{get_or, get_or-eq_default}
@@ -9,27 +9,9 @@ use Rattle.hns_p2p_types.specs.declared.InventoryKind.TheVariants as K
 use Rattle.hns_p2p_types.specs.Types.{types, type_of, type_number, kinds, kind_of, kind_number, TypesBack, KindsBack}
 use Rattle.hns_p2p_types.specs.Packets.{◌&◌}
 
--- what is none of 0 up to n - 1, as the last arm of a `match` knows it
-abbrev pub NoneBelow : ℕ → ℕ → Type 0
-NoneBelow zero t = Unit {0}
-NoneBelow (suc n) t = NoneBelow n t × (t ≡ n → ⊥)
-
-pub none_below : (n t : ℕ) → NoneBelow n t → n ≤ t
-none_below zero t h = omega arith
-none_below (suc n) t h = let low = none_below n t h.0 in let not = h.1 in omega arith
-
 pub type_past : (t : ℕ) → 30 ≤ t → T.Unknown t ≡ type_of t
 unfolding type_of types
 type_past t h = sym (get_or-eq_default types (T.Unknown t) h)
-
--- the last arm of the kinds: none of 1 to 6
-pub kind_past : (k : ℕ) → ((((((Unit {0} × (k ≡ 1 → ⊥)) × (k ≡ 2 → ⊥)) × (k ≡ 3 → ⊥)) × (k ≡ 4 → ⊥)) × (k ≡ 5 → ⊥)) × (k ≡ 6 → ⊥)) → K.Unknown k ≡ kind_of k
-unfolding kind_of kinds
-kind_past zero h = refl
-kind_past (suc k) h =
-    let none = none_below 6 k (((((((tt, λ e. h.0.0.0.0.0.1 (ap suc e)), λ e. h.0.0.0.0.1 (ap suc e)), λ e. h.0.0.0.1 (ap suc e)), λ e. h.0.0.1 (ap suc e)), λ e. h.0.1 (ap suc e)), λ e. h.1 (ap suc e))) in
-    let past : 7 ≤ suc k = omega arith in
-    sym (get_or-eq_default kinds (K.Unknown (suc k)) past)
 
 -- entries that have the numbers from n on, in order
 abbrev Numbered : {A : Type 0} → (A → ℕ) → ℕ → List A → Type 0

@@ -1,6 +1,7 @@
 -- Document 01, 'The packet': one table by type. A row has the format of a payload, the packet that its fields are, and its text; all else is read off it.
 -- Places count from the payload's first byte.
-use Rattle.std.specs.Prelude.{ℕ, zero, suc, ◌+◌, ◌-◌, ◌^◌, List, [], ◌∷◌, length, get_or, leb, ltb, ℤ, pos, negsuc, neg_ℤ}
+use Rattle.std.specs.Prelude.{ℕ, zero, suc, ◌+◌, ◌-◌, ◌^◌, List, [], ◌∷◌, length, get_or, leb, ltb, ℤ, pos, negsuc, neg_ℤ, Some, None, Result, Ok, Err}
+use Rattle.hns_refusals.specs.declared.Refusal.{Refusal}
 use Rattle.hns_refusals.specs.Refusals.{output_short}
 use Rattle.hns_encoding.specs.Bytes.{choose, le, part, left, Outcome, got, stop, to_end}
 use Rattle.hns_encoding.specs.Compact.{compact_bytes}
@@ -10,7 +11,6 @@ use Rattle.hns_p2p_types.specs.Protocol as protocol
 use Rattle.hns_p2p_types.specs.Protocol.{address, version, nonce, addresses, inventory, locator, headers, carries_hash, reject, feefilter, sendcmpct, getblocktxn, getproof, Layout, always, raw_payload, read_by}
 use Rattle.hns_p2p_types.specs.declared.Span.{Span}
 use Rattle.hns_p2p_types.specs.declared.Items.{Items}
-use Rattle.hns_p2p_types.specs.declared.Hash.TheVariants as H
 use Rattle.hns_p2p_types.specs.declared.NetAddress.{NetAddress}
 use Rattle.hns_p2p_types.specs.declared.VersionPacket.{VersionPacket}
 use Rattle.hns_p2p_types.specs.declared.LocatorPacket.{LocatorPacket}
@@ -65,7 +65,7 @@ reject_packet s v =
       message = v.0;
       code = v.1.0;
       reason = span_at 3 v.1.1.0;
-      hash = choose (carries_hash v.0) (H.At (length s - 32)) H.Absent;
+      hash = choose (carries_hash v.0) (Some (length s - 32)) None;
     }
 
 -- two's complement of 64 bits
@@ -161,19 +161,19 @@ entry B (a ∷ l) d (suc t) h k = entry B l d t h.1 k
 -- ---- what a payload answers
 
 -- the packet of the fields, or the refusal
-abbrev pub answered : {A : Type 0} → (A → Packet) → Outcome A → Packet
-answered packet (got v last) = packet v
-answered packet (stop r) = P.Refused r
+abbrev pub answered : {A : Type 0} → (A → Packet) → Outcome A → Result Packet Refusal
+answered packet (got v last) = Ok (packet v)
+answered packet (stop r) = Err r
 
 -- reading a payload s as a packet of type t, without an output for its text
-unfoldable pub packet_of : ℕ → List ℕ → Packet
+unfoldable pub packet_of : ℕ → List ℕ → Result Packet Refusal
 packet_of t s = answered ((row t).packet s) (read_by (layout t) s)
 
 -- its fields alone, from left to right, and 3 after them
-abbrev pub fields_by : Row → List ℕ → Packet
+abbrev pub fields_by : Row → List ℕ → Result Packet Refusal
 fields_by w s = answered (w.packet s) (to_end (read (w.layout (length s))) s)
 
-unfoldable pub fields_of : ℕ → List ℕ → Packet
+unfoldable pub fields_of : ℕ → List ℕ → Result Packet Refusal
 fields_of t s = fields_by (row t) s
 
 -- the address that stands at a place; zeros where it is not all there
@@ -196,17 +196,17 @@ inventory_numbers kind hash = kind ∷ hash ∷ []
 -- ---- what reading answers, and what the output for a text then holds
 
 pub record Answer : Type 0 where
-  pub packet : Packet
+  pub packet : Result Packet Refusal
   pub text : List ℕ
 
 -- 16 last, where the output is shorter than the agent or reason; else that stands at its front, and no other byte changes
 unfoldable pub texted : Packet → List ℕ → List ℕ → Answer
 texted packet x o =
-    choose (leb (length x) (length o)) (record { packet = packet; text = splice o 0 x }) (record { packet = P.Refused (output_short (length x)); text = o })
+    choose (leb (length x) (length o)) (record { packet = Ok packet; text = splice o 0 x }) (record { packet = Err (output_short (length x)); text = o })
 
 abbrev pub answer_by : {A : Type 0} → (A → Packet) → (A → List ℕ) → Outcome A → List ℕ → Answer
 answer_by packet text (got v last) o = texted (packet v) (text v) o
-answer_by packet text (stop r) o = record { packet = P.Refused r; text = o }
+answer_by packet text (stop r) o = record { packet = Err r; text = o }
 
 -- with the output o
 unfoldable pub read_packet : ℕ → List ℕ → List ℕ → Answer

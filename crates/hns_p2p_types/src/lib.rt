@@ -6,8 +6,6 @@ ghost use Rattle.hns_p2p_types.specs.Protocol.{carries_hash};
 ghost use Rattle.hns_p2p_types.specs.Packets.{signed_bits};
 ghost use Rattle.hns_p2p_types.specs.Types.{type_of, type_number, kind_of, kind_number};
 
-use hns_refusals::Refusal;
-
 pub const MAX_INVENTORY_ITEMS: usize = 50_000;
 
 pub const MAX_LOCATOR_HASHES: usize = MAX_INVENTORY_ITEMS;
@@ -24,7 +22,7 @@ pub const MAX_COMPACT_BLOCK_TRANSACTIONS: usize = 16_662;
 
 pub const NET_ADDRESS_SIZE: usize = 88;
 
-#[derive(Clone, Copy)]
+#[derive(Clone, Copy, Debug, PartialEq, Eq)]
 pub enum PacketType {
     Version,
     Verack,
@@ -59,11 +57,12 @@ pub enum PacketType {
     Unknown(u8),
 }
 
-impl PacketType {
-    pub fn as_u8(self) -> u8
-        ensures { result ≡ type_number self }
-    {
-        match self {
+impl From<PacketType> for u8 {
+    ghost from_gives = { λ t n. n ≡ type_number t };
+
+    #[tactic(auto, unfolding(crate::specs::Types::type_number))]
+    fn from(packet_type: PacketType) -> u8 {
+        match packet_type {
             PacketType::Version => 0,
             PacketType::Verack => 1,
             PacketType::Ping => 2,
@@ -97,10 +96,13 @@ impl PacketType {
             PacketType::Unknown(value) => value,
         }
     }
+}
 
-    pub fn from_u8(value: u8) -> PacketType
-        ensures { result ≡ type_of value }
-    {
+impl From<u8> for PacketType {
+    ghost from_gives = { λ n t. t ≡ type_of n };
+
+    #[tactic(auto, unfolding(crate::specs::Types::type_of, crate::specs::Types::types))]
+    fn from(value: u8) -> PacketType {
         match value {
             0 => PacketType::Version,
             1 => PacketType::Verack,
@@ -132,29 +134,28 @@ impl PacketType {
             27 => PacketType::Proof,
             28 => PacketType::Claim,
             29 => PacketType::Airdrop,
-            _ => PacketType::Unknown(value),
+            30.. => PacketType::Unknown(value),
         }
     }
 }
 
-// Whether a reject of this type carries a hash.
+// Whether a reject of this type carries a hash: a block's, a transaction's, a claim's or an airdrop's does.
+#[tactic(auto, unfolding(crate::specs::Protocol::carries_hash))]
 pub fn carries_reject_hash(packet_type: u8) -> bool
     ensures { result ≡ carries_hash packet_type }
 {
-    (packet_type == 13) | ((packet_type == 14) | ((packet_type == 28) | (packet_type == 29)))
+    matches!(packet_type, 13 | 14 | 28 | 29)
 }
 
-// Two's complement of a fee rate, as it stands in the payload.
+// Two's complement of a fee rate, as it stands in the payload: the library's conversion, by the document's definition.
+#[tactic(auto, using(crate::proofs::Signed::bits_same))]
 pub fn signed_bits(rate: i64) -> u64
     ensures { result ≡ signed_bits rate }
 {
-    if rate < 0 {
-        return 18_446_744_073_709_551_615 - (-1 - rate) as u64;
-    }
-    rate as u64
+    rate.cast_unsigned()
 }
 
-#[derive(Clone, Copy)]
+#[derive(Clone, Copy, Debug, PartialEq, Eq)]
 pub enum InventoryKind {
     Transaction,
     Block,
@@ -165,11 +166,12 @@ pub enum InventoryKind {
     Unknown(u32),
 }
 
-impl InventoryKind {
-    pub fn as_u32(self) -> u32
-        ensures { result ≡ kind_number self }
-    {
-        match self {
+impl From<InventoryKind> for u32 {
+    ghost from_gives = { λ k n. n ≡ kind_number k };
+
+    #[tactic(auto, unfolding(crate::specs::Types::kind_number))]
+    fn from(kind: InventoryKind) -> u32 {
+        match kind {
             InventoryKind::Transaction => 1,
             InventoryKind::Block => 2,
             InventoryKind::FilteredBlock => 3,
@@ -179,10 +181,13 @@ impl InventoryKind {
             InventoryKind::Unknown(value) => value,
         }
     }
+}
 
-    pub fn from_u32(value: u32) -> InventoryKind
-        ensures { result ≡ kind_of value }
-    {
+impl From<u32> for InventoryKind {
+    ghost from_gives = { λ n k. k ≡ kind_of n };
+
+    #[tactic(auto, unfolding(crate::specs::Types::kind_of, crate::specs::Types::kinds))]
+    fn from(value: u32) -> InventoryKind {
         match value {
             1 => InventoryKind::Transaction,
             2 => InventoryKind::Block,
@@ -196,29 +201,22 @@ impl InventoryKind {
 }
 
 // Bytes of the payload: where they begin, and how many.
-#[derive(Clone, Copy)]
+#[derive(Clone, Copy, Debug, PartialEq, Eq)]
 pub struct Span {
     pub start: usize,
     pub length: usize,
 }
 
 // Items under a count: how many, and where the first one begins.
-#[derive(Clone, Copy)]
+#[derive(Clone, Copy, Debug, PartialEq, Eq)]
 pub struct Items {
     pub count: usize,
     pub first: usize,
 }
 
-// 32 bytes of the payload from a place on, or no hash.
-#[derive(Clone, Copy)]
-pub enum Hash {
-    At(usize),
-    Absent,
-}
-
 // The ip is two little-endian numbers, of its first and of its last 8 bytes, zeros where the host kind is not 0; the key is
 // 33 bytes of the payload from a place on.
-#[derive(Clone, Copy)]
+#[derive(Clone, Copy, Debug, Default, PartialEq, Eq)]
 pub struct NetAddress {
     pub time: u64,
     pub services: u64,
@@ -228,7 +226,7 @@ pub struct NetAddress {
     pub key: usize,
 }
 
-#[derive(Clone, Copy)]
+#[derive(Clone, Copy, Debug, PartialEq, Eq)]
 pub struct VersionPacket {
     pub version: u32,
     pub services: u64,
@@ -240,34 +238,35 @@ pub struct VersionPacket {
     pub no_relay: bool,
 }
 
-#[derive(Clone, Copy)]
+#[derive(Clone, Copy, Debug, PartialEq, Eq)]
 pub struct LocatorPacket {
     pub locator: Items,
     pub stop: usize,
 }
 
-#[derive(Clone, Copy)]
+// The hash is 32 bytes of the payload from a place on, if there is one.
+#[derive(Clone, Copy, Debug, PartialEq, Eq)]
 pub struct RejectPacket {
     pub message: u8,
     pub code: u8,
     pub reason: Span,
-    pub hash: Hash,
+    pub hash: Option<usize>,
 }
 
-#[derive(Clone, Copy)]
+#[derive(Clone, Copy, Debug, PartialEq, Eq)]
 pub struct GetProofPacket {
     pub root: usize,
     pub key: usize,
 }
 
-#[derive(Clone, Copy)]
+#[derive(Clone, Copy, Debug, PartialEq, Eq)]
 pub struct CompactBlockRequest {
     pub block_hash: usize,
     pub indexes: Items,
 }
 
-// The packet that a payload reads as, or the refusal.
-#[derive(Clone, Copy)]
+// The packet that a payload reads as.
+#[derive(Clone, Copy, Debug, PartialEq, Eq)]
 pub enum Packet {
     Version(VersionPacket),
     Verack,
@@ -300,22 +299,20 @@ pub enum Packet {
     Claim(Span),
     Airdrop(Span),
     Unknown { packet_type: u8, payload: Span },
-    Refused(Refusal),
 }
 
-// An item under a count, fetched by its place in the list: numbers, and places of the payload; or the refusal.
-#[derive(Clone, Copy)]
+// An item under a count, fetched by its place in the list: numbers, and places of the payload.
+#[derive(Clone, Copy, Debug, PartialEq, Eq)]
 pub enum Item {
     Address(NetAddress),
     Inventory { kind: u32, hash: usize },
     Hash(usize),
     Header(usize),
     Index(u64),
-    Refused(Refusal),
 }
 
-// The items under the count of a payload, by what they are; or the refusal.
-#[derive(Clone, Copy)]
+// The items under the count of a payload, by what they are.
+#[derive(Clone, Copy, Debug, PartialEq, Eq)]
 pub enum Listing {
     Addresses(Items),
     Inventory(Items),
@@ -323,20 +320,4 @@ pub enum Listing {
     Headers(Items),
     Indexes(Items),
     Nothing,
-    Refused(Refusal),
-}
-
-// A place of an inventory item with a hash, none, or the refusal.
-#[derive(Clone, Copy)]
-pub enum Found {
-    At(usize),
-    Nowhere,
-    Refused(Refusal),
-}
-
-// How many indexes were stored, or the refusal.
-#[derive(Clone, Copy)]
-pub enum Stored {
-    Count(usize),
-    Refused(Refusal),
 }

@@ -1,5 +1,5 @@
 -- `store` meets its contract: what is stored and what is left are the whole list. Assumes nothing.
-use native.Mathlib.Omega.{arith}
+use Rattle.std.proofs.Common.{arith}
 use Rattle.hns_p2p_indexes.proofs.Storing.{store_start, store_there, store_small, store_next, store_end}
 use Rattle.hns_p2p_indexes.proofs.store.Goals as goal
 
@@ -12,26 +12,14 @@ step_at-step-requires c = store_there c.loop-i.invariant c.loop-i-test.true
 pub overflow_add-index : goal.overflow_add-index
 overflow_add-index c = omega (arith, store_small c.loop-i.invariant c.loop-i-test.true c.step_at-step.ensures)
 
-pub offset_bounds-out-i : goal.offset_bounds-out-i
-offset_bounds-out-i c = omega (arith, c.loop-i.invariant.long)
-
 pub bounds-out-i : goal.bounds-out-i
 bounds-out-i c = omega (arith, c.loop-i.invariant.long, c.requires.1)
 
 pub overflow_add-base : goal.overflow_add-base
 overflow_add-base c = omega (arith, store_small c.loop-i.invariant c.loop-i-test.true c.step_at-step.ensures)
 
-pub overflow_add-i : goal.overflow_add-i
-overflow_add-i c = omega arith
-
-pub loop-i-smaller : goal.loop-i-smaller
-loop-i-smaller c = omega arith
-
 pub loop-i-preserved : goal.loop-i-preserved
 loop-i-preserved c = store_next c.loop-i.invariant c.loop-i-test.true c.step_at-step.ensures
-
-pub shape_of-out : goal.shape_of-out
-shape_of-out c = c.loop-i.invariant.long
 
 pub returns : goal.returns
 returns c = store_end c.loop-i.invariant c.loop-i-test.false

@@ -1,9 +1,5 @@
-use Prim.Native.Nat.{◌-◌}
 use Rattle.hns_p2p_indexes.proofs.Storing.{StoredTo}
 use Rattle.hns_p2p_indexes.proofs.store.Given as goal
 
 abbrev pub invariant-loop-i : goal.invariant-loop-i
 invariant-loop-i l = StoredTo l.count l.payload l.first l.initial.out l.out l.i l.base l.next
-
-abbrev pub decreases-loop-i : goal.decreases-loop-i
-decreases-loop-i l = l.count - l.i

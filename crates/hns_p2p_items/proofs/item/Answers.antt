@@ -1,36 +1,27 @@
 -- `item` meets its contract.
-use mathlib.Core.Path.{ap, ◌∙◌}
-use native.Mathlib.Omega.{arith}
+use Rattle.std.proofs.Common.{rules, ◌≡◌, Err}
+use mathlib.Core.Path.{◌∙◌}
 use Rattle.hns_encoding.proofs.Numbers.{bytes_known}
-use Rattle.hns_p2p_types.specs.declared.Item.TheVariants as I
 use Rattle.hns_p2p_items.proofs.Items.{item_room, item_there, item_refused, item_past}
-use Rattle.hns_p2p_rights.specs.Terms.{terms_of}
 use Rattle.hns_p2p_items.proofs.item.Goals as goal
+
+pub returns-in_err-list : goal.returns-in_err-list
+returns-in_err-list c =
+    let refused : c.from_residual.result ≡ Err c.in_err-list.field-0.0 = search rules in
+    let bs = bytes_known c.args.payload.now (λ i. (c.shared_slice_known-2-1.given i).fits) in
+    refused ∙ item_refused _ _ _ bs _ c.listing.ensures c.in_err-list.was
+
+pub returns-then-items-place : goal.returns-then-items-place
+returns-then-items-place c =
+    let bs = bytes_known c.args.payload.now (λ i. (c.shared_slice_known-2-1.given i).fits) in
+    item_past _ _ _ bs _ c.listing.ensures c.in_ok-list.was c.items_in-items.ensures c.if-items-place.true
 
 pub item_in-requires : goal.item_in-requires
 item_in-requires c =
-    let a = c.args in
-    let s = a.payload.now in
-    let bs = bytes_known s (λ i. (c.shared_slice_known-2-1.given i).fits) in
-    item_room (terms_of a.terms.now) a.packet_type s bs a.place c.listing-list.ensures c.items_in-items.ensures (omega arith)
+    let bs = bytes_known c.args.payload.now (λ i. (c.shared_slice_known-2-1.given i).fits) in
+    item_room _ _ _ bs _ c.listing.ensures c.in_ok-list.was c.items_in-items.ensures c.if-items-place.false
 
-pub returns-then-place-items : goal.returns-then-place-items
-returns-then-place-items c =
-    let a = c.args in
-    let s = a.payload.now in
-    let bs = bytes_known s (λ i. (c.shared_slice_known-2-1.given i).fits) in
-    item_there (terms_of a.terms.now) a.packet_type s bs a.place c.listing-list.ensures c.items_in-items.ensures (omega arith) c.item_in.ensures
-
-pub returns-in-Refused : goal.returns-in-Refused
-returns-in-Refused c =
-    let a = c.args in
-    let s = a.payload.now in
-    let bs = bytes_known s (λ i. (c.shared_slice_known-2-1.given i).fits) in
-    item_refused (terms_of a.terms.now) a.packet_type s bs a.place c.listing-list.ensures c.in-Refused.is
-
-pub returns-in_default : goal.returns-in_default
-returns-in_default c =
-    let a = c.args in
-    let s = a.payload.now in
-    let bs = bytes_known s (λ i. (c.shared_slice_known-2-1.given i).fits) in
-    ap I.Refused c.no_item-none.ensures ∙ item_past (terms_of a.terms.now) a.packet_type s bs a.place c.listing-list.ensures c.items_in-items.ensures (omega arith) c.in_default.not-Refused
+pub returns : goal.returns
+returns c =
+    let bs = bytes_known c.args.payload.now (λ i. (c.shared_slice_known-2-1.given i).fits) in
+    item_there _ _ _ bs _ c.listing.ensures c.in_ok-list.was c.items_in-items.ensures c.if-items-place.false c.item_in.ensures

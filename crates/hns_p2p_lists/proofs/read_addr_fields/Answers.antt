@@ -1,16 +1,15 @@
-use mathlib.Core.Path.{ap, ◌∙◌}
-use Rattle.hns_encoding.proofs.Numbers.{bytes_known}
+use mathlib.Core.Path.{◌∙◌}
 use Rattle.hns_p2p_types.specs.Protocol.{address}
-use Rattle.hns_p2p_types.specs.Packets.{row, rows}
-use Rattle.hns_p2p_types.specs.Packets.{fields_of}
-use Rattle.hns_p2p_lists.specs.Helpers.{list_kind}
-use Rattle.hns_p2p_lists.specs.Helpers.{list_packet}
+use Rattle.hns_encoding.proofs.Numbers.{bytes_known}
+use Rattle.hns_p2p_types.specs.declared.Packet.TheVariants as P
+use Rattle.hns_p2p_types.specs.Packets.{row, rows, fields_of, items_at}
 use Rattle.hns_p2p_lists.proofs.Listed.{list_answer}
+use Rattle.hns_p2p_lists.proofs.Packets.{as_packet}
 use Rattle.hns_p2p_lists.proofs.read_addr_fields.Goals as goal
 
 pub returns : goal.returns
-unfolding fields_of row rows list_kind
+unfolding fields_of row rows
 returns c =
     let s = c.args.payload.now in
     let bs = bytes_known s (λ i. (c.shared_slice_known-1.given i).fits) in
-    c.list_packet.ensures ∙ (ap (list_packet 5 s) c.read_list.ensures ∙ list_answer 5 1000 1 address _ s bs)
+    as_packet P.Addr (items_at 0) _ (c.read_whole.ensures ∙ list_answer 1000 1 address _ s bs) c.map.ensures.cases
