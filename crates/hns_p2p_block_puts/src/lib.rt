@@ -8,11 +8,11 @@ ghost use Rattle.hns_encoding.specs.Bytes.{choose};
 ghost use Rattle.hns_encoding.specs.Format.{host, flag, raw, nothing, write};
 ghost use Rattle.hns_encoding.specs.Put.{Put};
 ghost use Rattle.hns_p2p_types.specs.Protocol.{address, version, reject, sendcmpct, getproof};
-ghost use Rattle.hns_p2p_block_puts.specs.Fields.{address_value, address_of, version_of, hash_if, reject_of};
+ghost use Rattle.hns_p2p_block_puts.specs.Fields.{address_of, version_of, hash_if, reject_of};
 
 use hns_encoder::Encoder;
 
-#[derive(Clone, Copy)]
+#[derive(Clone, Copy, Debug, PartialEq, Eq)]
 pub struct AddressFields {
     pub time: u64,
     pub services: u64,
@@ -22,7 +22,7 @@ pub struct AddressFields {
 }
 
 // The fields of a version but for the agent, which is lent beside them.
-#[derive(Clone, Copy)]
+#[derive(Clone, Copy, Debug, PartialEq, Eq)]
 pub struct VersionFields {
     pub version: u32,
     pub services: u64,
@@ -34,33 +34,30 @@ pub struct VersionFields {
 }
 
 // Host kind 0, ip and 20 zeros.
-fn put_host(encoder: Encoder, out: &mut [u8], ip: &[u8]) -> Encoder
-    ensures { Put out.old encoder.position (write host ip.now) out.new result.position }
+fn put_host(encoder: Encoder, out: &mut [u8], ip: [u8; 16]) -> Encoder
+    ensures { Put out.old encoder.position (write host ip) out.new result.position }
 {
-    let zeros = [0u8; 20];
     let e = encoder.put_u8(out, 0);
-    let e = e.put_bytes(out, ip);
-    e.put_bytes(out, &zeros)
+    let e = e.put_array(out, ip);
+    e.put_array(out, [0u8; 20])
 }
 
-// Of an ip of 16 bytes and a key of 33, which only address_block lends.
-fn put_address(
-    encoder: Encoder,
-    out: &mut [u8],
-    time: u64,
-    services: u64,
-    ip: &[u8],
-    port: u16,
-    key: &[u8],
-) -> Encoder
-    ensures { Put out.old encoder.position (write address (address_value time services ip.now port key.now)) out.new result.position }
+fn put_address(encoder: Encoder, out: &mut [u8], fields: AddressFields) -> Encoder
+    ensures { Put out.old encoder.position (write address (address_of fields)) out.new result.position }
 {
+    let AddressFields {
+        time,
+        services,
+        ip,
+        port,
+        key,
+    } = fields;
     let e = encoder.put_u64_le(out, time);
     let e = e.put_u32_le(out, (services % 4_294_967_296) as u32);
     let e = e.put_u32_le(out, 0);
     let e = put_host(e, out, ip);
     let e = e.put_u16_le(out, port);
-    e.put_bytes(out, key)
+    e.put_array(out, key)
 }
 
 // A length byte and the text, of which it can count 255 bytes.
@@ -75,61 +72,34 @@ fn put_text(encoder: Encoder, out: &mut [u8], text: &[u8]) -> Encoder
 fn put_flag(encoder: Encoder, out: &mut [u8], set: bool) -> Encoder
     ensures { Put out.old encoder.position (write flag set) out.new result.position }
 {
-    if set {
-        return encoder.put_u8(out, 1);
-    }
-    encoder.put_u8(out, 0)
+    encoder.put_u8(out, u8::from(set))
 }
 
 // The 88 bytes of an address. The array's length is known, so no put of them tests it.
 fn address_block(fields: AddressFields) -> [u8; 88]
     ensures { result ≡ write address (address_of fields) }
 {
-    let ip = fields.ip;
-    let key = fields.key;
     let mut block = [0u8; 88];
-    put_address(
-        Encoder::new(),
-        &mut block,
-        fields.time,
-        fields.services,
-        &ip,
-        fields.port,
-        &key,
-    );
+    put_address(Encoder::new(), &mut block, fields);
     block
-}
-
-// Near the output's end, where some bytes may not fit. It makes a block of its own: one that is read up to an unknown
-// length has to be in memory, and that of an address that fits stays in registers.
-fn put_cut(encoder: Encoder, out: &mut [u8], fields: AddressFields) -> Encoder
-    ensures { Put out.old encoder.position (write address (address_of fields)) out.new result.position }
-{
-    let block = address_block(fields);
-    encoder.put_bytes(out, &block)
 }
 
 // An address by one test of its 88 bytes' room.
 pub fn put_address_fields(encoder: Encoder, out: &mut [u8], fields: AddressFields) -> Encoder
     ensures { Put out.old encoder.position (write address (address_of fields)) out.new result.position }
 {
-    if hns_encoding::remaining(out, encoder.position) < 88 {
-        return put_cut(encoder, out, fields);
-    }
-    let block = address_block(fields);
-    encoder.put_bytes(out, &block)
+    encoder.put_array(out, address_block(fields))
 }
 
 // An agent over 255 bytes is put as its first 255: the length byte counts no more.
 pub fn put_version(encoder: Encoder, out: &mut [u8], fields: VersionFields, agent: &[u8]) -> Encoder
     ensures { Put out.old encoder.position (write version (version_of fields (take max_text agent.now))) out.new result.position }
 {
-    let remote = fields.remote;
     let e = encoder.put_u32_le(out, fields.version);
     let e = e.put_u32_le(out, (fields.services % 4_294_967_296) as u32);
     let e = e.put_u32_le(out, 0);
     let e = e.put_u64_le(out, fields.time);
-    let e = put_address_fields(e, out, remote);
+    let e = put_address_fields(e, out, fields.remote);
     let e = e.put_u64_le(out, fields.nonce);
     let e = put_text(e, out, agent);
     let e = e.put_u32_le(out, fields.height);
@@ -140,9 +110,10 @@ fn put_hash(encoder: Encoder, out: &mut [u8], carries: bool, hash: [u8; 32]) -> 
     ensures { Put out.old encoder.position (write (choose carries (raw 32) nothing) (hash_if carries hash)) out.new result.position }
 {
     if carries {
-        return encoder.put_array32(out, hash);
+        encoder.put_array(out, hash)
+    } else {
+        encoder
     }
-    encoder
 }
 
 // A reason over 255 bytes is put as its first 255; the hash only where the rejected type carries one.
@@ -166,13 +137,11 @@ pub fn put_reject(
 pub fn put_sendcmpct(encoder: Encoder, out: &mut [u8], mode: u8, version: u64) -> Encoder
     ensures { Put out.old encoder.position (write sendcmpct (mode, version)) out.new result.position }
 {
-    let e = encoder.put_u8(out, mode);
-    e.put_u64_le(out, version)
+    encoder.put_u8(out, mode).put_u64_le(out, version)
 }
 
 pub fn put_getproof(encoder: Encoder, out: &mut [u8], root: [u8; 32], key: [u8; 32]) -> Encoder
     ensures { Put out.old encoder.position (write getproof (root, key)) out.new result.position }
 {
-    let e = encoder.put_array32(out, root);
-    e.put_array32(out, key)
+    encoder.put_array(out, root).put_array(out, key)
 }

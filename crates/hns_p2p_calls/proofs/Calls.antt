@@ -13,7 +13,7 @@ use Rattle.hns_p2p_admission.specs.Reading.{read_under, packet_under, read_packe
 use Rattle.hns_p2p_rights.proofs.Masks.{alike}
 use Rattle.hns_p2p_admission.proofs.Admitted.{alike_admitted, readings}
 use Rattle.hns_p2p_items.specs.Items.{listed_by, listed_of, listed_under, item_by, item_of, item_under}
-use Rattle.hns_p2p_items.specs.Listings.{list_in, listing_under}
+use Rattle.hns_p2p_items.specs.Listings.{list_by, listing_under}
 use Rattle.hns_p2p_indexes.specs.Indexes.{Answer, stored_by, stored_of, request_under, stored_under}
 use Rattle.hns_p2p_item_numbers.specs.Numbers.{numbers_by, numbers_of, numbers_under}
 use Rattle.hns_p2p_wire.specs.Demand3.{from_value, rewritten_by, rewriting, rewriting_under}
@@ -34,7 +34,7 @@ calls_with s t q indexes =
     record {
       read_payload = answered ((row t).packet s) q;
       packet_read = answer_by ((row t).packet s) ((row t).text s) q;
-      listing = list_in (answered ((row t).packet s) q);
+      listing = list_by (answered ((row t).packet s) q);
       item = λ k. item_by k (listed_by t s q);
       find = listed_by t s q;
       indexes = indexes;
@@ -61,7 +61,7 @@ unfolding packet_of read_packet item_of listed_of stored_of numbers_of rewriting
 of_by t s = by_reading s (λ n. read_by (layout n) s) t
 
 refusing_by : (r : Refusal) (t : ℕ) (s : List ℕ) → refusing r t ≡ calls_by s t (stop r)
-unfolding list_in stored
+unfolding stored
 refusing_by r t s = by_reading s (λ n. stop r) t
 
 pub calls : CallsGoByTerms

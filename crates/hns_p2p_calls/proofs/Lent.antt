@@ -7,7 +7,7 @@ use native.Mathlib.Omega.{arith}
 use native.Mathlib.Nat.{zero-div}
 use lib.ListN.{length}
 use borrow.Author.Tests.{lt-leb}
-use Rattle.hns_refusals.specs.declared.Checked.TheVariants as C
+use Rattle.std.specs.Prelude.{Ok}
 use Rattle.hns_p2p_rights.specs.Terms.{Terms, own_mask, terms_of}
 use Rattle.hns_p2p_rights.specs.Rights.{bit, bit_of, granted, may_send}
 use Rattle.hns_p2p_rights.specs.Claims.{MaySend, SendingIs, if_may_send}
@@ -21,17 +21,17 @@ grants_nothing : (t : ℕ) → granted 0 t ≡ false
 unfolding granted bit
 grants_nothing t = rw (zero-div (2 ^ bit_of t))
 
-sent : {u : Terms} {t : ℕ} → SendingIs u t C.Passed → MaySend u t
+sent : {u : Terms} {t : ℕ} → SendingIs u t (Ok tt) → MaySend u t
 sent (if_may_send m) = m
 
 no_own_mask : (role : ℕ) (masks : List ℕ) → length masks < 8 → own_mask (terms_of (role ∷ masks)) ≡ 0
 unfolding terms_of
 no_own_mask role masks h = rw (lt-leb 8 (length masks) h)
 
-cut_off : (role : ℕ) (masks : List ℕ) → length masks < 8 → (t : ℕ) → may_send (terms_of (role ∷ masks)) t ≡ C.Passed → ⊥
+cut_off : (role : ℕ) (masks : List ℕ) → length masks < 8 → (t : ℕ) → may_send (terms_of (role ∷ masks)) t ≡ Ok tt → ⊥
 cut_off role masks h t e =
     let u = terms_of (role ∷ masks) in
-    let g = (sent ((conditions.sending u t C.Passed).1 (sym e))).a_grant in
+    let g = (sent ((conditions.sending u t (Ok tt)).1 (sym e))).a_grant in
     let z : ◌≡◌ {A = Bool} false true = sym (grants_nothing t) ∙ (ap (λ (m : ℕ). granted m t) (sym (no_own_mask role masks h)) ∙ g) in
     let no : ◌≡◌ {A = ℕ} 0 1 = cc in
     absurd (omega arith)

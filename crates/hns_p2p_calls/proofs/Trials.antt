@@ -7,16 +7,15 @@ use native.Mathlib.Omega.{arith}
 use lib.ListN.{length, get_or, replicate, length-replicate, get_or-replicate}
 use lib.Count.{ones, ones_cat}
 use Rattle.hns_refusals.specs.declared.Refusal.{Refusal}
-use Rattle.hns_refusals.specs.declared.Checked.TheVariants as C
+use Rattle.std.specs.Prelude.{Result, Ok, Err}
 use Rattle.hns_refusals.specs.Limits.{max_payload}
-use Rattle.hns_refusals.specs.Refusals.{no_role, not_granted, payload_too_large}
+use Rattle.hns_refusals.specs.Refusals.{number, no_role, not_granted, payload_too_large}
 use Rattle.hns_encoding.specs.Bytes.{end_at, to_end}
 use Rattle.hns_encoding.specs.Format.{read}
 use Rattle.hns_p2p_types.specs.declared.Packet.{Packet}
 use Rattle.hns_p2p_types.specs.declared.Packet.TheVariants as P
 use Rattle.hns_p2p_types.specs.Protocol.{read_by}
 use Rattle.hns_p2p_types.specs.Packets.{row, rows, texted, Answer, read_packet}
-use Rattle.hns_p2p_rights.specs.declared.Granted.TheVariants as G
 use Rattle.hns_p2p_rights.specs.Terms.{Terms, full_mask, Full}
 use Rattle.hns_p2p_rights.specs.Rights.{bit, bit_of, granted}
 use Rattle.hns_p2p_rights.specs.Claims.{if_no_role, if_not_granted, types}
@@ -27,7 +26,7 @@ use Rattle.hns_p2p_calls.specs.Calls.{Calls}
 use Rattle.hns_p2p_calls.specs.Trials.{Reader, ReadsUnder, OtherMask, OtherGrants, TrialsFail}
 use Rattle.hns_p2p_calls.proofs.Calls.{calls}
 
-abbrev packet : Answer → Packet
+abbrev packet : Answer → Result Packet Refusal
 packet a = a.packet
 
 -- terms of role 0 and one mask
@@ -35,15 +34,15 @@ abbrev only : ℕ → Terms
 only mask = record { role = 0; masks = mask ∷ [] }
 
 module _ (reader : Reader) (is : ReadsUnder reader) (u : Terms) (t : ℕ) (s : List ℕ) where
-  away : {r : Refusal} → AdmissionIs u t (length s) (C.Refused r) → (reader u t s []).packet ≡ P.Refused r
-  away {r} c = ap packet (is u t s [] ∙ ap (λ (k : Calls t). k.packet_read []) (calls.away u t s r (sym ((conditions u t (length s) (C.Refused r)).0 c))))
+  away : {r : Refusal} → AdmissionIs u t (length s) (Err r) → (reader u t s []).packet ≡ Err r
+  away {r} c = ap packet (is u t s [] ∙ ap (λ (k : Calls t). k.packet_read []) (calls.away u t s r (sym ((conditions u t (length s) (Err r)).0 c))))
 
   plain : Full u → reader u t s [] ≡ read_packet t s []
   plain f = is u t s [] ∙ ap (λ (k : Calls t). k.packet_read []) (calls.full u f t s)
 
 -- two refusals that differ, by their numbers
-apart : {p : Packet} (a b : Refusal) → p ≡ P.Refused a → p ≡ P.Refused b → (a.number ≡ b.number → ⊥) → ⊥
-apart a b x y d = let e : a ≡ b = cc in d (ap (λ (r : Refusal). r.number) e)
+apart : {p : Result Packet Refusal} (a b : Refusal) → p ≡ Err a → p ≡ Err b → (number a ≡ number b → ⊥) → ⊥
+apart a b x y d = let e : a ≡ b = cc in d (ap number e)
 
 -- a payload of as many zeros, which is never written out
 zeros : ℕ → List ℕ
@@ -54,11 +53,11 @@ unfolding zeros
 zeros_length n = length-replicate {A = ℕ} n 0
 
 -- a verack
-verack : (read_packet 1 [] []).packet ≡ P.Verack
+verack : (read_packet 1 [] []).packet ≡ Ok P.Verack
 unfolding read_packet row rows read_by read texted end_at to_end
 verack = refl
 
-verack_stands : {p : Packet} (r : Refusal) → p ≡ P.Refused r → p ≡ P.Verack → ⊥
+verack_stands : {p : Result Packet Refusal} (r : Refusal) → p ≡ Err r → p ≡ Ok P.Verack → ⊥
 verack_stands r x y = let z : ◌≡◌ {A = ℕ} 0 1 = cc in absurd (omega arith)
 
 -- a role other than k, and a mask of its own that grants what the mask of k does not
@@ -128,8 +127,8 @@ trials_fail =
           verack_stands not_granted (away reader is (only (2 ^ 30)) 1 [] (not_sent (if_not_granted (omega arith) not_one))) (ap packet (wrong (only (2 ^ 30)) 1 [] [] (omega arith) thirty (omega arith)) ∙ verack);
       counts_bit_31 = λ count wrong is.
           let u = only (2 ^ 31) in
-          let one : count u ≡ G.Types 1 = wrong u (omega arith) (omega arith) ∙ ap G.Types top_one in
-          let none : count u ≡ G.Types 0 = is u ∙ (sym (count_only {u = u} (types (omega arith))) ∙ ap G.Types top_none) in
+          let one : count u ≡ Ok 1 = wrong u (omega arith) (omega arith) ∙ ap (λ (n : ℕ). Ok n) top_one in
+          let none : count u ≡ Ok 0 = is u ∙ (sym (count_only {u = u} (types (omega arith))) ∙ ap (λ (n : ℕ). Ok n) top_none) in
           let z : ◌≡◌ {A = ℕ} 0 1 = cc in
           absurd (omega arith);
     }

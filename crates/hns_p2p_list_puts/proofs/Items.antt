@@ -6,19 +6,20 @@ use native.Mathlib.Omega.{arith}
 use native.Mathlib.Nat.{suc-mul, div-mul-le_self, mul-le-mul_right, mul-div_cancel}
 use lib.ListN.{length, take, drop, replicate, length-append}
 use lib.Seq.{length-take-le, take-take, drop-drop}
-use Rattle.hns_encoding.specs.Bytes.{Bytes, le, part, number_at}
+use Rattle.std.specs.Simd.{first_chunks}
+use Rattle.hns_encoding.specs.Bytes.{Bytes, le, part, number_at, raw_at}
 use Rattle.hns_encoding.specs.Compact.{compact_bytes}
 use Rattle.hns_encoding.specs.Format.{Format, raw, whole, counted, Value, Fixed, fixed_flat, Fit, All, size, value_at, write, write_all, values_at}
 use Rattle.hns_encoding.specs.Marks.{Mark, keep, marks, mark_all}
-use Rattle.hns_encoding.specs.Put.{Put}
 use Rattle.hns_encoding.proofs.Numbers.{part_add, part_length}
-use Rattle.hns_encoding.proofs.Reading.{number_there}
+use Rattle.hns_encoding.proofs.Reading.{number_there, raw_there}
 use Rattle.hns_encoding.proofs.Back.{back}
 use Rattle.hns_encoding.proofs.Blocks.{block_fits, fixed_length, length_all, length_values}
 use Rattle.hns_encoding.proofs.Forward.{forward, mark_keep}
 use Rattle.hns_refusals.specs.Limits.{block_header_size}
 use Rattle.hns_header_consensus.specs.Layout.{header}
 use Rattle.hns_p2p_types.specs.Protocol.{address, addresses, inventory_item, inventory, locator, headers}
+use Rattle.hns_p2p_block_puts.specs.Fields.{address_value}
 use Rattle.hns_p2p_list_puts.specs.Laws.{FlatBack, AddressesBack}
 use Rattle.hns_p2p_list_puts.specs.Fields.{flat_address_of, flat, flat_address, low_services, addresses_of, inventory_of, hashes_of, headers_of}
 
@@ -90,18 +91,6 @@ module _ (s : List ℕ) (bs : Bytes s) where
 
 -- ---- addresses
 
--- two copies of eight bytes
-pub sixteen_put : (s : List ℕ) (p : ℕ) {o o' : List ℕ} {e e' : ℕ} → Put o e (take (p + 8 - p) (drop p s) ++ take (p + 16 - (p + 8)) (drop (p + 8) s)) o' e' → Put o e (part s p 16) o' e'
-sixteen_put s p put =
-    let a : p + 8 - p ≡ 8 = omega arith in
-    let b : p + 16 - (p + 8) ≡ 8 = omega arith in
-    rw (part_add s p 8 8) (rw (a, b) at put)
-
-pub key_parts : (s : List ℕ) → length s ≡ 67 → part s 34 16 ++ (part s 50 16 ++ take (length s - 66) (drop 66 s)) ≡ part s 34 33
-key_parts s l =
-    let last : length s - 66 ≡ 1 = omega arith in
-    rw (last, part_add s 34 16 17, part_add s 50 16 1)
-
 take_inside : (a m n : ℕ) (l : List ℕ) → a + m ≤ n → take m (drop a (take n l)) ≡ take m (drop a l)
 take_inside zero m n l h = take-take m n l (omega arith)
 take_inside (suc a) m zero l h = absurd (omega arith)
@@ -121,31 +110,32 @@ module _ (s : List ℕ) (p : ℕ) (h : p + 67 ≤ length s) where
       number_there n item q (omega arith) ∙ ap le (part_inside q n k) ∙ sym (number_there n s (p + q) (omega arith))
 
   -- an item reads the same in a slice of its own
-  pub item_put : {t : Value address} {o o' : List ℕ} {e e' : ℕ} → t ≡ low_services (value_at flat_address _ (take (p + 67 - p) (drop p s)) 0)
-      → Put o e (write address t) o' e' → Put o e (write address (low_services (value_at flat_address _ s p))) o' e'
-  item_put is put =
-      let end : p + 67 - p ≡ 67 = omega arith in
+  item_same : value_at flat_address _ item 0 ≡ value_at flat_address _ s p
+  item_same =
       let p1 : p + 8 + 8 ≡ p + 16 = omega arith in
       let p2 : p + 16 + 16 ≡ p + 32 = omega arith in
       let p3 : p + 32 + 2 ≡ p + 34 = omega arith in
       let here : p + 0 ≡ p = omega arith in
-      rw (p1, p2, p3)
-      (rw (end, number_inside 0 8 (omega arith), number_inside 8 8 (omega arith), part_inside 16 16 (omega arith), number_inside 32 2 (omega arith), part_inside 34 33 (omega arith), here) at (rw is at put))
+      rw (p1, p2, p3, number_inside 0 8 (omega arith), number_inside 8 8 (omega arith), part_inside 16 16 (omega arith), number_inside 32 2 (omega arith), part_inside 34 33 (omega arith), here)
 
--- the bytes of n addresses from a place on
-abbrev pub flat_bytes : ℕ → List ℕ → ℕ → List ℕ
-flat_bytes n s p = write_all (write address) (map low_services (values_at flat_address _ n s p))
+-- what is put of an item of 67 bytes
+abbrev pub address_in : List ℕ → List ℕ
+address_in item = write address (low_services (value_at flat_address _ item 0))
 
-pub flat_start : (n : ℕ) (s : List ℕ) (p : ℕ) → flat_bytes n s p ≡ flat_bytes (n - 0) s p
-flat_start n s p = let all : n - 0 ≡ n = omega arith in rw all
+-- the fields of an item that the code reads
+pub item_fields : (s : List ℕ) → length s ≡ 67 → {time services port : ℕ} {ip key : List ℕ} → time ≡ number_at 8 s 0 → services ≡ number_at 8 s 8 → ip ≡ raw_at 16 s 16 → port ≡ number_at 2 s 32 → key ≡ raw_at 33 s 34
+    → address_value time services ip port key ≡ low_services (value_at flat_address _ s 0)
+item_fields s l t v i q k = rw (t, v, i ∙ raw_there 16 s 16 (omega arith), q, k ∙ raw_there 33 s 34 (omega arith))
 
-pub flat_here : (n i : ℕ) (s : List ℕ) (p : ℕ) → i < n → flat_bytes (n - i) s p ≡ write address (low_services (value_at flat_address _ s p)) ++ flat_bytes (n - (i + 1)) s (p + 67)
+-- the items one after another are those of the list
+pub chunks_put : (n : ℕ) (s : List ℕ) (p : ℕ) → p + n * 67 ≤ length s → write_all address_in (first_chunks 67 n (drop p s)) ≡ write_all (write address) (map low_services (values_at flat_address _ n s p))
 unfolding values_at
-flat_here n i s p h = let more : n - i ≡ suc (n - (i + 1)) = omega arith in rw more
-
-pub flat_end : (n i : ℕ) (s : List ℕ) (p : ℕ) → n ≤ i → flat_bytes (n - i) s p ≡ []
-unfolding values_at
-flat_end n i s p h = let none : n - i ≡ 0 = omega arith in rw none
+chunks_put zero s p h = refl
+chunks_put (suc n) s p h =
+    let step = suc-mul n 67 in
+    let here : address_in (take 67 (drop p s)) ≡ write address (low_services (value_at flat_address _ s p)) = ap (λ (v : Value flat_address). write address (low_services v)) (item_same s p (omega arith)) in
+    let later : write_all address_in (first_chunks 67 n (drop 67 (drop p s))) ≡ write_all (write address) (map low_services (values_at flat_address _ n s (p + 67))) = rw (drop-drop 67 p s) (chunks_put n s (p + 67) (omega arith)) in
+    ap₂ (λ (a b : List ℕ). a ++ b) here later
 
 length_low_services : (vs : List (Value flat_address)) → length (map low_services vs) ≡ length vs
 length_low_services [] = refl
@@ -166,9 +156,11 @@ module _ (s : List ℕ) where
   unfolding addresses_of flat
   many_addresses = length_low_services (values_at flat_address _ address_count s 0) ∙ length_values flat_address _ address_count s 0
 
-  pub addresses_written : write addresses (addresses_of s) ≡ compact_bytes address_count ++ flat_bytes address_count s 0
+  pub addresses_written : write addresses (addresses_of s) ≡ compact_bytes address_count ++ write_all address_in (first_chunks 67 address_count s)
   unfolding write addresses_of flat
-  addresses_written = ap (λ (n : ℕ). compact_bytes n ++ flat_bytes address_count s 0) many_addresses
+  addresses_written =
+      let chunks = chunks_put address_count s 0 (omega (arith, div-mul-le_self (length s) 67)) in
+      rw (many_addresses, chunks)
 
   module _ (bs : Bytes s) where
     pub addresses_all : All (Fit address) (addresses_of s)

@@ -1,9 +1,12 @@
 -- Loops of puts: whoever puts the rest has put the whole. Assumes nothing.
-use Prim.Native.Nat.{ℕ, ◌<◌, ◌^◌}
+use Prim.Native.Nat.{ℕ, ◌+◌, ◌≤◌, ◌<◌, ◌^◌}
 use mathlib.Core.Path.{◌≡◌, refl, ◌∙◌}
 use mathlib.Core.List.{List, [], ◌++◌}
 use native.Mathlib.Omega.{arith}
-use lib.ListN.{length}
+use native.Mathlib.Numerals.{add-one}
+use lib.ListN.{length, get_or, drop, drop_of_length-le}
+use lib.Seq.{drop-cons}
+use Rattle.hns_encoding.specs.Format.{write_all}
 use Rattle.hns_encoding.specs.Put.{Put, advance}
 use Rattle.hns_encoding.proofs.Puts.{then, put_length, put_none}
 
@@ -29,3 +32,21 @@ one_put rest e a =
 
 pub none_left : {o₀ : List ℕ} {p₀ : ℕ} {x₀ o : List ℕ} {p : ℕ} {x : List ℕ} → Rest o₀ p₀ x₀ o p x → x ≡ [] → Put o₀ p₀ x₀ o p
 none_left {o = o} {p = p} rest e = rest.whole o p (rw e (put_none o p rest.cursor))
+
+-- ---- a loop that puts what it makes of each element of a list
+
+module _ {A : Type 0} (g : A → List ℕ) (o : List ℕ) (p : ℕ) (xs : List A) where
+  -- before the turn of element i the output is ys and the cursor stands at k
+  abbrev pub Turn : ℕ → List ℕ → ℕ → Type 0
+  Turn i ys k = Rest o p (write_all g xs) ys k (write_all g (drop i xs))
+
+  pub first_turn : length o < 2 ^ 64 → p < 2 ^ 64 → Turn 0 o p
+  first_turn h k = all_left o p refl h k
+
+  pub next_turn : {i k k' : ℕ} {ys ys' : List ℕ} → Turn i ys k → (d : A) → i < length xs → Put ys k (g (get_or xs i d)) ys' k' → Turn (i + 1) ys' k'
+  next_turn {i = i} rest d h put =
+      let here : write_all g (drop i xs) ≡ g (get_or xs i d) ++ write_all g (drop (i + 1) xs) = rw (add-one i, drop-cons xs i d h) in
+      one_put rest here put
+
+  pub last_turn : {i k : ℕ} {ys : List ℕ} → Turn i ys k → length xs ≤ i → Put o p (write_all g xs) ys k
+  last_turn {i = i} rest h = let none : drop i xs ≡ [] = drop_of_length-le xs {i = i} h in none_left rest (rw none)

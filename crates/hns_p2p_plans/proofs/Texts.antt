@@ -1,56 +1,26 @@
 -- The tests of texts and of a reject. Assumes nothing.
-use Prim.Native.Nat.{ℕ, ◌+◌, ◌≤◌, ◌<◌}
-use mathlib.Core.Path.{◌≡◌, refl, sym, ap, ◌∙◌}
+use Prim.Native.Nat.{ℕ, zero, suc, ◌≤◌, ◌<◌}
+use mathlib.Core.Path.{◌≡◌, refl, sym, ◌∙◌}
 use mathlib.Core.List.{List, [], ◌∷◌}
-use mathlib.Core.Bool.{Bool, true, false, ◌&&◌}
+use mathlib.Core.Bool.{Bool, true, false, ◌&&◌, beq}
 use native.Mathlib.Omega.{arith}
-use lib.ListN.{length, get_or, drop, drop_of_length-le}
+use lib.ListN.{length, get_or}
 use lib.Dec.{leb}
 use borrow.Author.Tests.{le-leb, lt-leb, leb-true}
-use Rattle.hns_refusals.specs.declared.Refusal.{Refusal}
-use Rattle.hns_refusals.specs.Refusals.{over_limit, not_ascii}
+use Rattle.std.specs.Bool.{MatchBool}
+use Rattle.std.specs.Str.{IsAscii, IsNotAscii}
+use Rattle.std.specs.Prelude.{Ok, Err}
 use Rattle.hns_encoding.specs.Bytes.{choose}
 use Rattle.hns_encoding.specs.Format.{All}
-use Rattle.hns_encoding.proofs.Forward.{drop_next}
 use Rattle.hns_p2p_types.specs.Protocol.{carries_hash}
-use Rattle.hns_refusals.specs.declared.Checked.{Checked}
-use Rattle.hns_refusals.specs.declared.Checked.TheVariants as C
-use Rattle.hns_p2p_plans.specs.Laws.{TextFit, TextPass}
+use Rattle.hns_refusals.specs.declared.Refusal.{Refusal}
+use Rattle.hns_refusals.specs.Refusals.{Answer, not_ascii, hash_presence}
 use Rattle.hns_refusals.specs.Checks.{first}
-use Rattle.hns_p2p_plans.specs.Tests.{within, ascii, text_tests, hash_test, reject_tests}
-use Rattle.hns_p2p_plans.proofs.Tests.{choose_passed, first_passed, within_passed, within_limit, over, answered}
+use Rattle.hns_p2p_plans.specs.Laws.{TextFit, TextPass}
+use Rattle.hns_p2p_plans.specs.Tests.{within, ascii, text_tests, hash_test, reject_tests, plan_of, planned}
+use Rattle.hns_p2p_plans.proofs.Tests.{choose_passed, first_passed, within_passed, within_limit, passed_by}
 
 -- ---- the tests
-
-module _ (field : ℕ) (s : List ℕ) where
-  pub text_long : 255 < length s → {r : Refusal} → r ≡ over_limit (length s) 255 field → C.Refused r ≡ text_tests field s
-  unfolding text_tests first
-  text_long h e = rw (← over (length s) 255 field h e)
-
-  module _ (few : length s ≤ 255) where
-    tests_left : text_tests field s ≡ choose (ascii s) C.Passed (C.Refused (not_ascii field))
-    unfolding text_tests first
-    tests_left = rw (← within_limit (length s) 255 field few)
-
-    module _ (i : ℕ) (same : ascii (drop i s) ≡ ascii s) where
-      pub high_byte : i < length s → 127 < get_or s i 0 → {r : Refusal} → r ≡ not_ascii field → C.Refused r ≡ text_tests field s
-      unfolding ascii
-      high_byte h k e =
-          let here : ascii (drop i s) ≡ false = rw (drop_next s i h, lt-leb _ _ k) in
-          rw (tests_left, ← same, here) (ap C.Refused e)
-
-      pub low_byte : i < length s → get_or s i 0 ≤ 127 → ascii (drop (i + 1) s) ≡ ascii s
-      unfolding ascii
-      low_byte h k =
-          let here : ascii (drop i s) ≡ ascii (drop (i + 1) s) = rw (drop_next s i h, le-leb _ _ k) in
-          sym here ∙ same
-
-      pub all_low : length s ≤ i → C.Passed ≡ text_tests field s
-      unfolding ascii
-      all_low h =
-          let none : drop i s ≡ [] = drop_of_length-le s {i = i} h in
-          let all : true ≡ ascii s = rw none at same in
-          rw (tests_left, ← all)
 
 both : (a b : Bool) → (a && b) ≡ true → (a ≡ true) × (b ≡ true)
 both true b e = (refl, e)
@@ -68,28 +38,84 @@ pub text_fit : TextFit
 unfolding text_tests
 text_fit field s e =
     let a = first_passed (within (length s) 255 field) _ e in
-    (within_passed (length s) 255 field a.0, ascii_all s (choose_passed (ascii s) C.Passed _ a.1).0)
+    (within_passed (length s) 255 field a.0, ascii_all s (choose_passed (ascii s) (Ok tt) _ a.1).0)
 
 all_ascii : (s : List ℕ) → All (λ b. b < 128) s → ascii s ≡ true
 unfolding ascii
 all_ascii [] h = refl
 all_ascii (b ∷ s) h = let low : b ≤ 127 = omega (arith, h.0) in rw (le-leb _ _ low) (all_ascii s h.1)
 
+tests_left : (field : ℕ) (s : List ℕ) → length s ≤ 255 → text_tests field s ≡ choose (ascii s) (Ok tt) (Err (not_ascii field))
+unfolding text_tests first
+tests_left field s few = rw (← within_limit (length s) 255 field few)
+
 pub text_pass : TextPass
 text_pass field s fit = rw (tests_left field s fit.0, all_ascii s fit.1)
 
-module _ (t : ℕ) (reason : List ℕ) (present : Bool) where
-  pub reject_text : {k : Checked} {r : Refusal} → k ≡ text_tests 8 reason → k ≡ C.Refused r → C.Refused r ≡ reject_tests t reason present
-  unfolding reject_tests first
-  reject_text e q = rw (answered e q)
+-- what the code's tests say of a text: it is too long, or it has a byte over 127, or neither
+ascii_low : (s : List ℕ) → IsAscii s → ascii s ≡ true
+unfolding ascii
+ascii_low [] low = refl
+ascii_low (b ∷ s) low = let here : b ≤ 127 = omega (arith, low 0) in rw (le-leb _ _ here) (ascii_low s (λ i. low (suc i)))
 
-  pub reject_hash : {k j : Checked} {b : Bool} → k ≡ text_tests 8 reason → k ≡ C.Passed → b ≡ carries_hash t → j ≡ hash_test b present → j ≡ reject_tests t reason present
-  unfolding reject_tests first
-  reject_hash e q c d = rw (answered e q, ← c) d
+ascii_high : (s : List ℕ) (i : ℕ) → 128 ≤ get_or s i 0 → ascii s ≡ false
+unfolding ascii
+ascii_high [] i h = absurd (omega arith)
+ascii_high (b ∷ s) zero h = rw (lt-leb b 127 (omega arith))
+ascii_high (b ∷ s) (suc i) h = rw (ascii_high s i h) (never (leb b 127))
+  where
+    never : (a : Bool) → (a && false) ≡ false
+    never true = refl
+    never false = refl
 
-  pub reject_short : reject_tests t reason present ≡ C.Passed → length reason ≤ 255
-  unfolding reject_tests
-  reject_short e = (text_fit 8 reason (first_passed (text_tests 8 reason) _ e).0).0
+module _ (field : ℕ) (s : List ℕ) {told : Answer (Unit {0})} (e : told ≡ within (length s) 255 field) where
+  pub text_long : {r : Refusal} → told ≡ Err r → Err r ≡ text_tests field s
+  unfolding text_tests first
+  text_long q = rw (← e, q)
+
+  module _ (q : told ≡ Ok tt) where
+    few : length s ≤ 255
+    few = within_passed (length s) 255 field (sym e ∙ q)
+
+    pub text_low : {low : Bool} → MatchBool low (IsAscii s) (IsNotAscii s) → low ≡ true → Ok tt ≡ text_tests field s
+    text_low cases is = rw (tests_left field s few, ascii_low s (rw is at cases))
+
+    pub text_high : {low : Bool} → MatchBool low (IsAscii s) (IsNotAscii s) → low ≡ false → Err (not_ascii field) ≡ text_tests field s
+    text_high cases is = let high = rw is at cases in rw (tests_left field s few, ascii_high s high.0 high.1)
+
+-- a hash is there where the type carries one
+pub same_hash : (a b : Bool) → beq a b ≡ true → Ok tt ≡ hash_test a b
+unfolding hash_test
+same_hash true true e = refl
+same_hash true false e = cc
+same_hash false true e = cc
+same_hash false false e = refl
+
+pub other_hash : (a b : Bool) → beq a b ≡ false → Err hash_presence ≡ hash_test a b
+unfolding hash_test
+other_hash true true e = cc
+other_hash true false e = refl
+other_hash false true e = refl
+other_hash false false e = cc
+
+-- a reject by the code's tests of it
+module _ (t : ℕ) (reason : List ℕ) (present : Bool) (n there : ℕ) {told : Answer (Unit {0})} (e : told ≡ text_tests 8 reason) where
+  pub reject_text : {r : Refusal} → told ≡ Err r → Err r ≡ planned (reject_tests t reason present) n there
+  unfolding reject_tests planned plan_of first
+  reject_text q = rw (← e, q)
+
+  module _ (q : told ≡ Ok tt) {b : Bool} (c : b ≡ carries_hash t) {hash : Answer (Unit {0})} (d : hash ≡ hash_test b present) where
+    pub reject_hash : {r : Refusal} → hash ≡ Err r → Err r ≡ planned (reject_tests t reason present) n there
+    unfolding reject_tests planned plan_of first
+    reject_hash r = rw (← e, q, ← c, ← d, r)
+
+    pub reject_planned : hash ≡ Ok tt → {m : ℕ} {plan : Answer ℕ} → plan ≡ planned (Ok tt) m there → m ≡ n → plan ≡ planned (reject_tests t reason present) n there
+    unfolding reject_tests first
+    reject_planned r p same = passed_by (reject_tests t reason present) n there refl (rw (← e, q, ← c, ← d) r) p same
+
+pub reject_short : (t : ℕ) (reason : List ℕ) (present : Bool) → reject_tests t reason present ≡ Ok tt → length reason ≤ 255
+unfolding reject_tests
+reject_short t reason present e = (text_fit 8 reason (first_passed (text_tests 8 reason) _ e).0).0
 
 pub choose_small : (b : Bool) → choose b 32 0 ≤ 32
 choose_small true = omega arith

@@ -8,6 +8,8 @@ use native.Mathlib.Nat.{zero-add}
 use lib.ListN.{length, get_or, take, drop, length-append, length-take, length-drop}
 use lib.Seq.{take_all, take-append_seam, drop-append_seam}
 use borrow.Author.Tests.{le-leb}
+use Rattle.std.specs.Prelude.{Result, Ok, Err, Some, None, is_some}
+use Rattle.hns_refusals.specs.declared.Refusal.{Refusal}
 use Rattle.hns_refusals.specs.Limits.{max_payload, max_addresses, max_inventory, max_headers, block_header_size}
 use Rattle.hns_refusals.specs.Refusals.{address_field, inventory_field, header_field}
 use Rattle.hns_encoding.specs.Bytes.{choose, Bytes, part, Outcome, got, stop, to_end, raw_at}
@@ -22,7 +24,6 @@ use Rattle.hns_encoding.proofs.Rewritten.{rewritten}
 use Rattle.hns_header_consensus.specs.Layout.{header}
 use Rattle.hns_p2p_types.proofs.Payloads.{by_reads}
 use Rattle.hns_p2p_types.specs.declared.Span.{Span}
-use Rattle.hns_p2p_types.specs.declared.Hash.TheVariants as H
 use Rattle.hns_p2p_types.specs.declared.Packet.{Packet}
 use Rattle.hns_p2p_types.specs.declared.Packet.TheVariants as P
 use Rattle.hns_p2p_types.specs.Protocol.{address, addresses, inventory_item, inventory, locator, headers, version, reject, carries_hash, getblocktxn, getproof}
@@ -34,7 +35,6 @@ use Rattle.hns_p2p_lists.proofs.Listed.{list_stands}
 use Rattle.hns_p2p_packet.proofs.Texts.{flat_got}
 use Rattle.hns_p2p_laws.specs.Places.{hash_place, raw_places, rejected_part, columns, parts_of, standing}
 use Rattle.hns_p2p_laws.proofs.Places.{places_stand}
-use Rattle.hns_p2p_frame.specs.declared.Encoded.TheVariants as E
 use Rattle.hns_p2p_frame.specs.Frame.{Written}
 use Rattle.hns_p2p_block_puts.specs.declared.VersionFields.{VersionFields}
 use Rattle.hns_p2p_writer.specs.Writing.{exit}
@@ -44,14 +44,13 @@ use Rattle.hns_p2p_wire.specs.Demand3.{rewriting, rewriting_under}
 use Rattle.hns_p2p_wire.specs.NotKept.{Keeping}
 use Rattle.hns_p2p_wire.proofs.Demand3.{front_is, Claim, EachRow, of_type}
 use Rattle.hns_p2p_wire.proofs.NotKept.{whole_kept}
-use Rattle.hns_p2p_fields.specs.Fields.{address_fields_in, version_fields_in, present, hash_in}
+use Rattle.hns_p2p_fields.specs.Fields.{address_fields_in, version_fields_in, hash_in}
 use Rattle.hns_p2p_rewrite.proofs.Fields.{fields_there}
 
 -- of a packet, its payload s, the output x for its text and an output o: what the call gives that the code makes for it is w
 abbrev pub As : Packet → List ℕ → List ℕ → List ℕ → Written → Type 0
-As (P.Refused r) s x o w = exit (E.Refused r) o ≡ w
 As (P.Version v) s x o w = gives_version (version_fields_in s v) (take v.agent.length x) o ≡ w
-As (P.Reject r) s x o w = gives_reject r.message r.code (take r.reason.length x) (present r.hash) (hash_in s r.hash) o ≡ w
+As (P.Reject r) s x o w = gives_reject r.message r.code (take r.reason.length x) (is_some r.hash) (hash_in s r.hash) o ≡ w
 As (P.Addr i) s x o w = (i.count ≤ max_addresses) × (i.first + i.count * 88 ≤ length s) × (gives_addr (flat_addresses (values_at address _ i.count s i.first)) o ≡ w)
 As (P.Inv i) s x o w = gives_inventory (drop i.first s) o ≡ w
 As (P.GetData i) s x o w = gives_inventory (drop i.first s) o ≡ w
@@ -81,6 +80,11 @@ As (P.Proof k) s x o w = gives_raw s o ≡ w
 As (P.Claim k) s x o w = gives_raw s o ≡ w
 As (P.Airdrop k) s x o w = gives_raw s o ≡ w
 As (P.Unknown t k) s x o w = gives_raw s o ≡ w
+
+-- and of an answer: a refusal is the call's
+abbrev pub As-answer : Result Packet Refusal → List ℕ → List ℕ → List ℕ → Written → Type 0
+As-answer (Ok p) s x o w = As p s x o w
+As-answer (Err r) s x o w = exit (Err r) o ≡ w
 
 -- of a row and its writer: its text is short, and with it at the front of x the call is as said
 pub record Row-as (w : Row) (c : Writer w) (s : List ℕ) (v : Value (w.layout (length s))) : Type 0 where
@@ -172,13 +176,13 @@ version_said s bs v last e =
     let remote = subst (λ (a : Value address). address_fields_in s (address_at 20 a) ≡ address_fields a) (ap (λ (w : Value version). w.1.1.1.1.0) g.0) (fields_there s bs 20 (omega (arith, g.1))) in
     rw remote
 
-hash_said : (b : Bool) (h : Value (choose b (raw 32) nothing)) (s : List ℕ) (p : ℕ) → standing s (hash_place (choose b (H.At p) H.Absent)) ≡ rejected_part b h → Fit (choose b (raw 32) nothing) h
-    → (present (choose b (H.At p) H.Absent) ≡ b) × (hash_in s (choose b (H.At p) H.Absent) ≡ hash_of b h)
+hash_said : (b : Bool) (h : Value (choose b (raw 32) nothing)) (s : List ℕ) (p : ℕ) → standing s (hash_place (choose b (Some p) None)) ≡ rejected_part b h → Fit (choose b (raw 32) nothing) h
+    → (is_some (choose b (Some p) None) ≡ b) × (hash_in s (choose b (Some p) None) ≡ hash_of b h)
 hash_said true h s p e fit = (refl, raw_is 32 s p (ap (λ (l : List (List ℕ)). get_or l 0 []) e) fit)
 hash_said false h s p e fit = (refl, refl)
 
 reject_said : (s : List ℕ) → Bytes s → length s ≤ max_payload → (v : Value reject) (last : ℕ) → to_end (read reject) s ≡ got v last
-    → (present (reject_packet s v).hash ≡ carries_hash v.0) × (hash_in s (reject_packet s v).hash ≡ hash_of (carries_hash v.0) v.1.1.1)
+    → (is_some (reject_packet s v).hash ≡ carries_hash v.0) × (hash_in s (reject_packet s v).hash ≡ hash_of (carries_hash v.0) v.1.1.1)
 unfolding row rows raw_places columns parts_of
 reject_said s bs h v last e =
     hash_said (carries_hash v.0) v.1.1.1 s (length s - 32) (places_stand 15 s v last (by_reads (layout 15) s h e)).bytes (fit_of reject s bs v last e).1.1.1
@@ -240,7 +244,7 @@ module _ (u : Terms) (t : ℕ) (s : List ℕ) (bs : Bytes s) (z : List ℕ) (roo
   abbrev answer : Answer
   answer = read_packet_under u t s z
 
-  by_reading : (q : Outcome (Value (layout t (length s)))) → read_under u t s ≡ q → As answer.packet s answer.text o (rewriting_under u t s o)
+  by_reading : (q : Outcome (Value (layout t (length s)))) → read_under u t s ≡ q → As-answer answer.packet s answer.text o (rewriting_under u t s o)
   unfolding read_packet_under rewriting_under texted
   by_reading (stop r) e = rw e refl
   by_reading (got v last) e =
@@ -249,65 +253,12 @@ module _ (u : Terms) (t : ℕ) (s : List ℕ) (bs : Bytes s) (z : List ℕ) (roo
       let short : length ((row t).text s v) ≤ length z = omega (arith, r.few) in
       rw (e, le-leb (length ((row t).text s v)) (length z) short) (r.as_said (splice z 0 ((row t).text s v)) o (front_is ((row t).text s v) z short))
 
-  pub as_read : {p : Packet} {x : List ℕ} → p ≡ answer.packet → x ≡ answer.text → As p s x o (rewriting_under u t s o)
-  as_read e q = rw (e, q) (by_reading (read_under u t s) refl)
+  module _ {a : Result Packet Refusal} {x : List ℕ} (e : a ≡ answer.packet) (q : x ≡ answer.text) where
+    as_read : As-answer a s x o (rewriting_under u t s o)
+    as_read = rw (e, q) (by_reading (read_under u t s) refl)
 
--- ---- packets that no arm names: raw bytes
+    pub as_packet : {p : Packet} → a ≡ Ok p → As p s x o (rewriting_under u t s o)
+    as_packet is = rw is at as_read
 
--- a packet of none of the variants that have an arm of their own
-pub record Unnamed (p : Packet) : Type 0 where
-  pub version : (x0 : _) → p ≡ P.Version x0 → ⊥
-  pub verack : p ≡ P.Verack → ⊥
-  pub ping : (x0 : _) → p ≡ P.Ping x0 → ⊥
-  pub pong : (x0 : _) → p ≡ P.Pong x0 → ⊥
-  pub get_addr : p ≡ P.GetAddr → ⊥
-  pub addr : (x0 : _) → p ≡ P.Addr x0 → ⊥
-  pub inv : (x0 : _) → p ≡ P.Inv x0 → ⊥
-  pub get_data : (x0 : _) → p ≡ P.GetData x0 → ⊥
-  pub not_found : (x0 : _) → p ≡ P.NotFound x0 → ⊥
-  pub get_blocks : (x0 : _) → p ≡ P.GetBlocks x0 → ⊥
-  pub get_headers : (x0 : _) → p ≡ P.GetHeaders x0 → ⊥
-  pub headers : (x0 : _) → p ≡ P.Headers x0 → ⊥
-  pub send_headers : p ≡ P.SendHeaders → ⊥
-  pub reject : (x0 : _) → p ≡ P.Reject x0 → ⊥
-  pub mempool : p ≡ P.Mempool → ⊥
-  pub filter_clear : p ≡ P.FilterClear → ⊥
-  pub fee_filter : (x0 : _) → p ≡ P.FeeFilter x0 → ⊥
-  pub send_cmpct : (x0 : _) (x1 : _) → p ≡ P.SendCmpct x0 x1 → ⊥
-  pub get_block_txn : (x0 : _) → p ≡ P.GetBlockTxn x0 → ⊥
-  pub get_proof : (x0 : _) → p ≡ P.GetProof x0 → ⊥
-  pub refused : (x0 : _) → p ≡ P.Refused x0 → ⊥
-
-pub others_raw : (p : Packet) → Unnamed p → (s x o : List ℕ) (w : Written) → As p s x o w → gives_raw s o ≡ w
-others_raw (P.Version v) h s x o w a = absurd (h.version v refl)
-others_raw P.Verack h s x o w a = absurd (h.verack refl)
-others_raw (P.Ping n) h s x o w a = absurd (h.ping n refl)
-others_raw (P.Pong n) h s x o w a = absurd (h.pong n refl)
-others_raw P.GetAddr h s x o w a = absurd (h.get_addr refl)
-others_raw (P.Addr i) h s x o w a = absurd (h.addr i refl)
-others_raw (P.Inv i) h s x o w a = absurd (h.inv i refl)
-others_raw (P.GetData i) h s x o w a = absurd (h.get_data i refl)
-others_raw (P.NotFound i) h s x o w a = absurd (h.not_found i refl)
-others_raw (P.GetBlocks l) h s x o w a = absurd (h.get_blocks l refl)
-others_raw (P.GetHeaders l) h s x o w a = absurd (h.get_headers l refl)
-others_raw (P.Headers i) h s x o w a = absurd (h.headers i refl)
-others_raw P.SendHeaders h s x o w a = absurd (h.send_headers refl)
-others_raw (P.Block k) h s x o w a = a
-others_raw (P.Tx k) h s x o w a = a
-others_raw (P.Reject r) h s x o w a = absurd (h.reject r refl)
-others_raw P.Mempool h s x o w a = absurd (h.mempool refl)
-others_raw (P.FilterLoad k) h s x o w a = a
-others_raw (P.FilterAdd k) h s x o w a = a
-others_raw P.FilterClear h s x o w a = absurd (h.filter_clear refl)
-others_raw (P.MerkleBlock k) h s x o w a = a
-others_raw (P.FeeFilter n) h s x o w a = absurd (h.fee_filter n refl)
-others_raw (P.SendCmpct m n) h s x o w a = absurd (h.send_cmpct m n refl)
-others_raw (P.CmpctBlock k) h s x o w a = a
-others_raw (P.GetBlockTxn q) h s x o w a = absurd (h.get_block_txn q refl)
-others_raw (P.BlockTxn k) h s x o w a = a
-others_raw (P.GetProof p) h s x o w a = absurd (h.get_proof p refl)
-others_raw (P.Proof k) h s x o w a = a
-others_raw (P.Claim k) h s x o w a = a
-others_raw (P.Airdrop k) h s x o w a = a
-others_raw (P.Unknown t k) h s x o w a = a
-others_raw (P.Refused r) h s x o w a = absurd (h.refused r refl)
+    pub as_refused : {r : Refusal} → a ≡ Err r → exit (Err r) o ≡ rewriting_under u t s o
+    as_refused is = rw is at as_read

@@ -68,18 +68,27 @@ module _ (s : List ℕ) (bs : Bytes s) (p : ℕ) (h : p + 88 ≤ length s) where
 abbrev pub flat_from : ℕ → List ℕ → ℕ → List ℕ
 flat_from n s p = flat_addresses (values_at address _ n s p)
 
-pub flat_start : (n : ℕ) (s : List ℕ) (p : ℕ) → flat_from n s p ≡ flat_from (n - 0) s p
-flat_start n s p = let all : n - 0 ≡ n = omega arith in rw all
+-- those from i on
+abbrev pub flat_left : ℕ → List ℕ → ℕ → ℕ → List ℕ
+flat_left n s p i = flat_from (n - i) s (p + i * 88)
 
-pub flat_here : (s : List ℕ) → Bytes s → (n i p : ℕ) → i < n → p + 88 ≤ length s → {a : NetAddress} {f : AddressFields} → a ≡ address_in s p → f ≡ address_fields_in s a
-    → flat_from (n - i) s p ≡ write flat_address (flat_fields f) ++ flat_from (n - (i + 1)) s (p + 88)
+pub flat_start : (n : ℕ) (s : List ℕ) (p : ℕ) → flat_from n s p ≡ flat_left n s p 0
+flat_start n s p =
+    let all : n - 0 ≡ n = omega arith in
+    let here : p + 0 * 88 ≡ p = omega arith in
+    rw (all, here)
+
+pub flat_here : (s : List ℕ) → Bytes s → (n p i : ℕ) → i < n → p + n * 88 ≤ length s → {a : NetAddress} {f : AddressFields} → a ≡ address_in s (p + i * 88) → f ≡ address_fields_in s a
+    → flat_left n s p i ≡ write flat_address (flat_fields f) ++ flat_left n s p (i + 1)
 unfolding values_at
-flat_here s bs n i p h k e q =
+flat_here s bs n p i h k e q =
     let more : n - i ≡ suc (n - (i + 1)) = omega arith in
-    let is = q ∙ (ap (address_fields_in s) (e ∙ address_there s bs p k) ∙ fields_there s bs p k) in
-    rw (more, is)
+    let next : p + (i + 1) * 88 ≡ p + i * 88 + 88 = omega arith in
+    let there : p + i * 88 + 88 ≤ length s = omega arith in
+    let is = q ∙ (ap (address_fields_in s) (e ∙ address_there s bs (p + i * 88) there) ∙ fields_there s bs (p + i * 88) there) in
+    rw (more, is, next)
 
-pub flat_end : (n i : ℕ) (s : List ℕ) (p : ℕ) → n ≤ i → flat_from (n - i) s p ≡ []
+pub flat_end : (n i : ℕ) (s : List ℕ) (p : ℕ) → n ≤ i → flat_left n s p i ≡ []
 unfolding values_at
 flat_end n i s p h = let none_left : n - i ≡ 0 = omega arith in rw none_left
 

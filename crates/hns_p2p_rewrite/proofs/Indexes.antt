@@ -5,14 +5,13 @@ use mathlib.Core.List.{List, []}
 use native.Mathlib.Omega.{arith}
 use lib.ListN.{length, get_or, take}
 use borrow.Author.Tests.{le-leb}
+use Rattle.std.specs.Prelude.{Result, Ok, Err}
 use Rattle.hns_refusals.specs.declared.Refusal.{Refusal}
 use Rattle.hns_refusals.specs.Limits.{max_indexes}
 use Rattle.hns_encoding.specs.Bytes.{Bytes, Outcome, got, stop, raw_at}
 use Rattle.hns_encoding.specs.Format.{Value}
 use Rattle.hns_encoding.proofs.Puts.{length_splice}
 use Rattle.hns_p2p_types.proofs.Payloads.{by_got}
-use Rattle.hns_p2p_types.specs.declared.Stored.{Stored}
-use Rattle.hns_p2p_types.specs.declared.Stored.TheVariants as S
 use Rattle.hns_p2p_types.specs.Protocol.{getblocktxn, always, read_by}
 use Rattle.hns_p2p_types.specs.Packets.{rows, row}
 use Rattle.hns_p2p_rights.specs.Terms.{terms_of}
@@ -21,7 +20,6 @@ use Rattle.hns_p2p_admission.proofs.Admitted.{readings}
 use Rattle.hns_p2p_laws.specs.Places.{raw_places, columns, parts_of}
 use Rattle.hns_p2p_laws.proofs.Places.{places_stand}
 use Rattle.hns_p2p_indexes.specs.Indexes.{Answer, stored_by, request_under, stored_under}
-use Rattle.hns_p2p_frame.specs.declared.Encoded.TheVariants as E
 use Rattle.hns_p2p_writer.specs.Writing.{exit}
 use Rattle.hns_p2p_writer.specs.Writers.{gives_get_block_txn}
 use Rattle.hns_p2p_wire.specs.Demand3.{rewriting}
@@ -47,19 +45,18 @@ module _ (s : List ℕ) (bs : Bytes s) (z : List ℕ) (room : length z ≡ max_i
   hash_read v last e =
       raw_is 32 s 0 (ap (λ (l : List (List ℕ)). get_or l 0 []) (places_stand 24 s v last e).bytes) (fit_of getblocktxn s bs v last (by_got (always getblocktxn) s e).1).0
 
-  refused_by : (u : Outcome (Value getblocktxn)) → read_by (always getblocktxn) s ≡ u → {r : Refusal} → (stored_by u z).answer ≡ S.Refused r → exit (E.Refused r) o ≡ rewriting 24 s o
+  refused_by : (u : Outcome (Value getblocktxn)) → read_by (always getblocktxn) s ≡ u → {r : Refusal} → (stored_by u z).answer ≡ Err r → exit (Err r) o ≡ rewriting 24 s o
   unfolding rewriting row rows
-  refused_by (stop r) e q = rw e (ap (λ (k : Refusal). exit (E.Refused k) o) cc)
+  refused_by (stop r) e q = rw e (ap (λ (k : Refusal). exit (Err k) o) cc)
   refused_by (got v last) e q =
       let full = rw (le-leb (length v.1) (length z) (few_read v last e)) at q in
-      let no : ◌≡◌ {A = ℕ} 0 1 = cc in
-      absurd (omega arith)
+      cc
 
-  pub indexes_refused : {a : Stored} {r : Refusal} → a ≡ (stored_under (terms_of []) s z).answer → a ≡ S.Refused r → exit (E.Refused r) o ≡ rewriting 24 s o
+  pub indexes_refused : {a : Result ℕ Refusal} {r : Refusal} → a ≡ (stored_under (terms_of []) s z).answer → a ≡ Err r → exit (Err r) o ≡ rewriting 24 s o
   indexes_refused e q = refused_by (read_by (always getblocktxn) s) refl (sym (e ∙ ap (λ (x : Answer). x.answer) (stored_plainly s z)) ∙ q)
 
-  listed_by : (u : Outcome (Value getblocktxn)) → read_by (always getblocktxn) s ≡ u → {n : ℕ} {z' : List ℕ} → (stored_by u z).answer ≡ S.Count n → z' ≡ (stored_by u z).output → Listed s o n z'
-  listed_by (stop r) e q f = let no : ◌≡◌ {A = ℕ} 0 1 = cc in absurd (omega arith)
+  listed_by : (u : Outcome (Value getblocktxn)) → read_by (always getblocktxn) s ≡ u → {n : ℕ} {z' : List ℕ} → (stored_by u z).answer ≡ Ok n → z' ≡ (stored_by u z).output → Listed s o n z'
+  listed_by (stop r) e q f = cc
   listed_by (got v last) e {n} q f =
       let few = few_read v last e in
       let test = le-leb (length v.1) (length z) few in
@@ -68,7 +65,7 @@ module _ (s : List ℕ) (bs : Bytes s) (z : List ℕ) (room : length z ≡ max_i
       let g = by_got (always getblocktxn) s e in
       record { inside = omega (arith, many, few, ap length filled, length_splice z 0 v.1); gives = rw (← many, filled, front_is v.1 z few, hash_read v last e) (sym (txn_said s g.0 v last g.1 o)) }
 
-  pub indexes_listed : {a : Stored} {n : ℕ} {z' : List ℕ} → a ≡ (stored_under (terms_of []) s z).answer → a ≡ S.Count n → z' ≡ (stored_under (terms_of []) s z).output → Listed s o n z'
+  pub indexes_listed : {a : Result ℕ Refusal} {n : ℕ} {z' : List ℕ} → a ≡ (stored_under (terms_of []) s z).answer → a ≡ Ok n → z' ≡ (stored_under (terms_of []) s z).output → Listed s o n z'
   indexes_listed e q f =
       let as_plain = stored_plainly s z in
       listed_by (read_by (always getblocktxn) s) refl (sym (e ∙ ap (λ (x : Answer). x.answer) as_plain) ∙ q) (f ∙ ap (λ (x : Answer). x.output) as_plain)

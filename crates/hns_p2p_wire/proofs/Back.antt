@@ -11,8 +11,9 @@ use lib.IntN.{ℤ, pos, negsuc}
 use mir.Syntax.{w64}
 use mir.Val.{SFits}
 use borrow.Author.Tests.{leb-true, lt-ltb, le-ltb}
+use Rattle.std.specs.Prelude.{Ok, Err}
 use Rattle.hns_refusals.specs.Limits.{max_payload, max_addresses, max_locator}
-use Rattle.hns_refusals.specs.Refusals.{address_field, locator_field, agent_field, reason_field}
+use Rattle.hns_refusals.specs.Refusals.{Answer, address_field, locator_field, agent_field, reason_field}
 use Rattle.hns_encoding.specs.Bytes.{choose, got, to_end}
 use Rattle.hns_encoding.specs.Format.{Format, raw, nothing, Value, read, write, Fit, size}
 use Rattle.hns_encoding.specs.Put.{splice}
@@ -20,10 +21,7 @@ use Rattle.hns_encoding.proofs.Back.{back, to_end_back}
 use Rattle.hns_encoding.proofs.Blocks.{length_values}
 use Rattle.hns_p2p_types.specs.Protocol.{address, version, feefilter, carries_hash}
 use Rattle.hns_p2p_types.specs.Packets.{signed, signed_bits}
-use Rattle.hns_p2p_frame.specs.declared.Encoded.TheVariants as E
 use Rattle.hns_p2p_frame.specs.Frame.{Written}
-use Rattle.hns_refusals.specs.declared.Checked.{Checked}
-use Rattle.hns_refusals.specs.declared.Checked.TheVariants as C
 use Rattle.hns_refusals.specs.Checks.{first}
 use Rattle.hns_p2p_plans.specs.Tests.{room, text_tests, reject_tests}
 use Rattle.hns_p2p_plans.proofs.Tests.{choose_passed, first_passed, within_passed}
@@ -44,18 +42,15 @@ record Filled (x o o' : List ℕ) (n : ℕ) : Type 0 where
   front : o' ≡ splice o 0 x
   room_there : length x ≤ length o
 
-settle_filled : (k : Checked) (x o : List ℕ) {o' : List ℕ} {n : ℕ} → exit (E.Written n) o' ≡ settle k x o → (k ≡ C.Passed) × (n ≡ length x) × (o' ≡ splice o 0 x)
+settle_filled : (k : Answer (Unit {0})) (x o : List ℕ) {o' : List ℕ} {n : ℕ} → exit (Ok n) o' ≡ settle k x o → (k ≡ Ok tt) × (n ≡ length x) × (o' ≡ splice o 0 x)
 unfolding settle
-settle_filled C.Passed x o e =
+settle_filled (Ok u) x o e =
     let a = ap (λ (w : Written). w.answer) e in
     let b = ap (λ (w : Written). w.output) e in
     (refl, cc, b)
-settle_filled (C.Refused r) x o e =
-    let a = ap (λ (w : Written). w.answer) e in
-    let z : ◌≡◌ {A = ℕ} 0 1 = cc in
-    absurd (omega arith)
+settle_filled (Err r) x o e = let a = ap (λ (w : Written). w.answer) e in cc
 
-filled : (tests : Checked) (x o : List ℕ) {o' : List ℕ} {n : ℕ} → exit (E.Written n) o' ≡ writing tests x o → Filled x o o' n
+filled : (tests : Answer (Unit {0})) (x o : List ℕ) {o' : List ℕ} {n : ℕ} → exit (Ok n) o' ≡ writing tests x o → Filled x o o' n
 unfolding writing room
 filled tests x o e =
     let s = settle_filled (first tests (room (length x) (length o))) x o e in

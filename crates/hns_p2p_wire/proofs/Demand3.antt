@@ -8,6 +8,7 @@ use lib.ListN.{length, get_or, take, drop}
 use lib.Seq.{take-append_seam}
 use lib.IntN.{pos, neg_ℤ}
 use borrow.Author.Tests.{le-leb, lt-ltb, le-ltb}
+use Rattle.std.specs.Prelude.{Some, None, Result, Ok}
 use Rattle.hns_encoding.specs.Bytes.{choose, Bytes, Outcome, got, stop, to_end}
 use Rattle.hns_encoding.specs.Format.{Format, nothing, num, raw, Value, read, write, Fit, All}
 use Rattle.hns_encoding.specs.Put.{splice}
@@ -17,7 +18,6 @@ use Rattle.hns_encoding.proofs.Rewritten.{rewritten}
 use Rattle.hns_p2p_types.proofs.Payloads.{by_got, by_reads}
 use Rattle.hns_p2p_types.specs.declared.Packet.{Packet}
 use Rattle.hns_p2p_types.specs.declared.Packet.TheVariants as P
-use Rattle.hns_p2p_types.specs.declared.Hash.TheVariants as H
 use Rattle.hns_p2p_types.specs.Protocol.{carries_hash, Layout, read_by}
 use Rattle.hns_p2p_types.specs.Packets.{span_at, items_at, signed, signed_bits, version_packet, agent_of, reason_of, Row, rows, raw_bytes, row, layout, ◌&◌, entry, answered, packet_of, answer_by, texted, read_packet, Answer}
 use Rattle.hns_p2p_rights.specs.Terms.{Terms}
@@ -26,8 +26,7 @@ use Rattle.hns_p2p_admission.specs.Reading.{read_under, read_packet_under}
 use Rattle.hns_p2p_admission.proofs.Admitted.{under_got, readings}
 use Rattle.hns_p2p_stream.proofs.Demand3.{demand_3}
 use Rattle.hns_p2p_frame.specs.Frame.{Written}
-use Rattle.hns_refusals.specs.declared.Checked.{Checked}
-use Rattle.hns_refusals.specs.declared.Checked.TheVariants as C
+use Rattle.hns_refusals.specs.declared.Refusal.{Refusal}
 use Rattle.hns_p2p_writer.specs.Writing.{writing}
 use Rattle.hns_p2p_writer.specs.Writers.{gives_raw}
 use Rattle.hns_p2p_wire.proofs.Given.{Given, indexes_given, addresses_given, inventory_given, locator_given, headers_given, version_given, reject_given, given_again}
@@ -40,7 +39,7 @@ use Rattle.hns_p2p_wire.proofs.NotKept.{not_kept}
 
 -- what a writer is given for the value v: arguments that pass its tests, and of which it writes v
 record Gives (f : Format) (v : Value f) (end : List ℕ → Written) : Type 0 where
-  tests : Checked
+  tests : Result (Unit {0}) Refusal
   value : Value f
   contract : (o : List ℕ) → writing tests (write f value) o ≡ end o
   given : Fit f v → Given f tests value v
@@ -120,12 +119,12 @@ abbrev Each : Claim
 Each w c = (n : ℕ) (v : Value (w.layout n)) → Gives (w.layout n) v (c.writes n v)
 
 -- a writer without tests of its own
-plain : (f : Format) (v : Value f) → Gives f v (λ o. writing C.Passed (write f v) o)
-plain f v = record { tests = C.Passed; value = v; contract = λ o. refl; given = λ fit. record { same = refl; passed = refl } }
+plain : (f : Format) (v : Value f) → Gives f v (λ o. writing (Ok tt) (write f v) o)
+plain f v = record { tests = Ok tt; value = v; contract = λ o. refl; given = λ fit. record { same = refl; passed = refl } }
 
 raw_bytes_fit : (n : ℕ) (v : List ℕ) → Gives (raw n) v (gives_raw v)
 unfolding write
-raw_bytes_fit n v = record { tests = C.Passed; value = v; contract = λ o. refl; given = λ fit. record { same = refl; passed = refl } }
+raw_bytes_fit n v = record { tests = Ok tt; value = v; contract = λ o. refl; given = λ fit. record { same = refl; passed = refl } }
 
 each_row : EachRow Each rows writers
 unfolding rows writers
@@ -151,7 +150,7 @@ each_row =
     & raw_bytes_fit
     & (λ n v. plain nothing tt)
     & raw_bytes_fit
-    & (λ n v. record { tests = C.Passed; value = signed_bits (signed v); contract = λ o. refl; given = λ fit. record { same = bits_signed v fit; passed = refl } })
+    & (λ n v. record { tests = Ok tt; value = signed_bits (signed v); contract = λ o. refl; given = λ fit. record { same = bits_signed v fit; passed = refl } })
     & (λ n v. plain _ v)
     & raw_bytes_fit
     & (λ n v. record { tests = _; value = _; contract = λ o. refl; given = indexes_given v })
@@ -202,7 +201,7 @@ by_lengths =
     & untexted (λ n v. P.SendHeaders) (λ s v. refl) (λ s v. refl)
     & untexted (λ n v. P.Block (span_at 0 v)) (λ s v. refl) (λ s v. refl)
     & untexted (λ n v. P.Tx (span_at 0 v)) (λ s v. refl) (λ s v. refl)
-    & told (λ n v. P.Reject (record { message = v.0; code = v.1.0; reason = span_at 3 v.1.1.0; hash = choose (carries_hash v.0) (H.At (n - 32)) H.Absent })) (λ n v. reason_of v) (λ s v. refl) (λ s v. refl)
+    & told (λ n v. P.Reject (record { message = v.0; code = v.1.0; reason = span_at 3 v.1.1.0; hash = choose (carries_hash v.0) (Some (n - 32)) None })) (λ n v. reason_of v) (λ s v. refl) (λ s v. refl)
     & untexted (λ n v. P.Mempool) (λ s v. refl) (λ s v. refl)
     & untexted (λ n v. P.FilterLoad (span_at 0 v)) (λ s v. refl) (λ s v. refl)
     & untexted (λ n v. P.FilterAdd (span_at 0 v)) (λ s v. refl) (λ s v. refl)
@@ -224,14 +223,14 @@ unfolding row
 by_length t = entry ByLength rows (raw_bytes (P.Unknown t)) t by_lengths (untexted (λ n v. P.Unknown t (span_at 0 v)) (λ s v. refl) (λ s v. refl))
 
 module _ (w : Row) (b : ByLength w) where
-  abbrev packet_by : (n : ℕ) × Outcome (Value (w.layout n)) → Packet
+  abbrev packet_by : (n : ℕ) × Outcome (Value (w.layout n)) → Result Packet Refusal
   packet_by r = answered (b.packet r.0) r.1
 
   abbrev answer_for : List ℕ → (n : ℕ) × Outcome (Value (w.layout n)) → Answer
   answer_for o r = answer_by (b.packet r.0) (b.text r.0) r.1 o
 
   packet_by_lem : (x : List ℕ) (u : Outcome (Value (w.layout (length x)))) → answered (w.packet x) u ≡ packet_by (length x, u)
-  packet_by_lem x (got v last) = b.is x v
+  packet_by_lem x (got v last) = ap Ok (b.is x v)
   packet_by_lem x (stop r) = refl
 
   answer_by_lem : (x o : List ℕ) (u : Outcome (Value (w.layout (length x)))) → answer_by (w.packet x) (w.text x) u o ≡ answer_for o (length x, u)
@@ -267,7 +266,7 @@ module _ (u : Terms) (t : ℕ) (s : List ℕ) (bs : Bytes s) (v : Value (layout 
   plainly = let g = under_got u t s e in by_reads (layout t) s g.small g.whole
 
   -- what is written is as long, so that it is admitted too
-  admits_again : admitted u t (length (zeroed (layout t) s)) ≡ C.Passed
+  admits_again : admitted u t (length (zeroed (layout t) s)) ≡ Ok tt
   admits_again = ap (admitted u t) (long (layout t) s bs v last plainly) ∙ (under_got u t s e).admits
 
   reads_again : read_under u t (zeroed (layout t) s) ≡ read_by (layout t) (zeroed (layout t) s)

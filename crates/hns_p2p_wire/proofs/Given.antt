@@ -6,8 +6,9 @@ use mathlib.Core.List.{List, map}
 use native.Mathlib.Omega.{arith}
 use lib.ListN.{length, length-map}
 use borrow.Author.Tests.{le-leb}
+use Rattle.std.specs.Prelude.{Ok}
 use Rattle.hns_refusals.specs.Limits.{max_payload, max_addresses, max_inventory, max_locator, max_headers, block_header_size}
-use Rattle.hns_refusals.specs.Refusals.{address_field, inventory_field, locator_field, header_field, agent_field}
+use Rattle.hns_refusals.specs.Refusals.{Answer, address_field, inventory_field, locator_field, header_field, agent_field}
 use Rattle.hns_encoding.specs.Bytes.{choose, Bytes, got, to_end}
 use Rattle.hns_encoding.specs.Format.{Format, raw, nothing, whole, Value, read, write, Fit, Fixed, All, size}
 use Rattle.hns_encoding.specs.Marks.{marks, mark_all}
@@ -18,9 +19,6 @@ use Rattle.hns_encoding.proofs.Rewritten.{rewritten}
 use Rattle.hns_header_consensus.specs.Layout.{header}
 use Rattle.hns_p2p_types.specs.Protocol.{addresses, inventory_item, inventory, locator, headers, version, reject, getblocktxn, carries_hash}
 use Rattle.hns_p2p_types.specs.Packets.{agent_of, reason_of}
-use Rattle.hns_p2p_frame.specs.declared.Encoded.TheVariants as E
-use Rattle.hns_refusals.specs.declared.Checked.{Checked}
-use Rattle.hns_refusals.specs.declared.Checked.TheVariants as C
 use Rattle.hns_refusals.specs.Checks.{first}
 use Rattle.hns_p2p_plans.specs.Tests.{within, room, text_tests, hash_test, reject_tests, index_tests}
 use Rattle.hns_p2p_plans.proofs.Tests.{within_limit}
@@ -33,16 +31,16 @@ use Rattle.hns_p2p_writer.specs.Writing.{exit, settle, writing}
 use Rattle.hns_p2p_wire.specs.Table.{flat_of, flat_addresses, version_fields, hash_of}
 
 -- a writer's tests pass, and what it writes is v
-pub record Given (f : Format) (tests : Checked) (w v : Value f) : Type 0 where
+pub record Given (f : Format) (tests : Answer (Unit {0})) (w v : Value f) : Type 0 where
   pub same : w ≡ v
-  pub passed : tests ≡ C.Passed
+  pub passed : tests ≡ Ok tt
 
 pub indexes_given : (v : Value getblocktxn) → Fit getblocktxn v → Given getblocktxn (index_tests v.1) (v.0, v.1) v
 indexes_given v fit = record { same = refl; passed = indexes_pass v.1 fit.1 }
 
 -- ---- flat lists
 
-flat_passed : (f : Format) → Fixed f → 0 < size f → (limit field : ℕ) (vs : List (Value f)) → length vs ≤ limit → All (Fit f) vs → within (length (flat_of f vs) / size f) limit field ≡ C.Passed
+flat_passed : (f : Format) → Fixed f → 0 < size f → (limit field : ℕ) (vs : List (Value f)) → length vs ≤ limit → All (Fit f) vs → within (length (flat_of f vs) / size f) limit field ≡ Ok tt
 flat_passed f x h limit field vs few g = rw (many_all f x h vs g) (sym (within_limit (length vs) limit field few))
 
 pub addresses_given : (v : Value addresses) → Fit addresses v → Given addresses (within (length (flat_addresses v) / 67) max_addresses address_field) (addresses_of (flat_addresses v)) v
@@ -80,7 +78,7 @@ hash_same : (b : Bool) (h : Value (choose b (raw 32) nothing)) → hash_if b (ha
 hash_same true h = refl
 hash_same false h = refl
 
-hash_passed : (b : Bool) → hash_test b b ≡ C.Passed
+hash_passed : (b : Bool) → hash_test b b ≡ Ok tt
 unfolding hash_test
 hash_passed true = refl
 hash_passed false = refl
@@ -96,14 +94,14 @@ reject_given v fit =
 
 -- ---- every writer
 
-writes : (tests : Checked) (x o : List ℕ) → tests ≡ C.Passed → length x ≤ max_payload → length x ≤ length o → exit (E.Written (length x)) (splice o 0 x) ≡ writing tests x o
+writes : (tests : Answer (Unit {0})) (x o : List ℕ) → tests ≡ Ok tt → length x ≤ max_payload → length x ≤ length o → exit (Ok (length x)) (splice o 0 x) ≡ writing tests x o
 unfolding writing settle first room
 writes tests x o e h k = rw (e, le-leb _ _ h, le-leb _ _ k)
 
 -- a payload that reads as v, given to its writer, is written as the same bytes with what is not kept set to zero
 pub given_again : (f : Format) (s : List ℕ) → Bytes s → (v : Value f) (last : ℕ) → to_end (read f) s ≡ got v last
-    → (tests : Checked) (w : Value f) → (Fit f v → Given f tests w v) → length s ≤ max_payload → (o : List ℕ) → length s ≤ length o
-    → exit (E.Written (length s)) (splice o 0 (mark_all (marks f s 0) s)) ≡ writing tests (write f w) o
+    → (tests : Answer (Unit {0})) (w : Value f) → (Fit f v → Given f tests w v) → length s ≤ max_payload → (o : List ℕ) → length s ≤ length o
+    → exit (Ok (length s)) (splice o 0 (mark_all (marks f s 0) s)) ≡ writing tests (write f w) o
 given_again f s bs v last e tests w given h o k =
     let again = rewritten f s bs v last e in
     let g = given (forward f s bs 0 (omega arith) v last (to_end_got (read f) s e).0).fit in

@@ -41,8 +41,8 @@ trials_fail =
       not_leaves_reserved = λ h. let z : ◌≡◌ {A = ℕ} 1 0 = ap (λ (l : List ℕ). get_or l 8 0) (of_payload leaves_reserved h (replicate 122 0) (omega arith)).1.output in absurd (omega arith);
       not_skips_reserved = λ h. let z : ◌≡◌ {A = ℕ} 1 0 = ap (λ (l : List ℕ). get_or l 8 0) (of_payload skips_reserved h (replicate 122 1) (omega arith)).1.output in absurd (omega arith);
       copies_all = λ h. let z : ◌≡◌ {A = ℕ} 1 0 = ap (λ (l : List ℕ). get_or l 8 0) (of_payload copies h (replicate 122 0) (omega arith)).1.output in absurd (omega arith);
-      not_drops_last = λ h. let e = (of_single drops_last h (0 ∷ []) (omega arith)).1.answer in let z : ◌≡◌ {A = ℕ} 0 1 = cc in absurd (omega arith);
+      not_drops_last = λ h. let e = (of_single drops_last h (0 ∷ []) (omega arith)).1.answer in cc;
       not_drops_last_answers_all = λ h. let z : ◌≡◌ {A = ℕ} 0 1 = ap (λ (l : List ℕ). get_or l 0 0) (of_single drops_last_answers_all h (0 ∷ []) (omega arith)).1.output in absurd (omega arith);
       not_writes_past_end = λ h. let z : ◌≡◌ {A = ℕ} 0 1 = ap (λ (l : List ℕ). get_or l 1 0) (of_single writes_past_end h (1 ∷ 1 ∷ []) (omega arith)).1.output in absurd (omega arith);
-      not_refuses_all = λ h. let e = (of_single refuses_all h (0 ∷ []) (omega arith)).1.answer in let z : ◌≡◌ {A = ℕ} 0 1 = cc in absurd (omega arith);
+      not_refuses_all = λ h. let e = (of_single refuses_all h (0 ∷ []) (omega arith)).1.answer in cc;
     }

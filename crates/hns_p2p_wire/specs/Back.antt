@@ -1,16 +1,13 @@
 -- What an accepted call wrote reads back as what the writer was given; of services the low 32 bits.
-use Rattle.std.specs.Prelude.{ℕ, ◌/◌, ◌^◌, ◌<◌, ◌≡◌, Bool, List, ℤ, length, take}
+use Rattle.std.specs.Prelude.{ℕ, ◌/◌, ◌^◌, ◌<◌, ◌≡◌, Bool, List, ℤ, length, take, Ok}
 use Rattle.std.specs.Int.{w64}
 use Rattle.std.proofs.Common.{SFits}
 use Rattle.hns_refusals.specs.Limits.{max_addresses, max_locator}
-use Rattle.hns_refusals.specs.Refusals.{address_field, locator_field, agent_field}
+use Rattle.hns_refusals.specs.Refusals.{Answer, address_field, locator_field, agent_field}
 use Rattle.hns_encoding.specs.Bytes.{Bytes, got, to_end}
 use Rattle.hns_encoding.specs.Format.{Format, raw, counted, Value, read, write, Fit, Fixed, size}
 use Rattle.hns_p2p_types.specs.Protocol.{address, addresses, nonce, locator, version, reject, feefilter, sendcmpct, getblocktxn, getproof}
 use Rattle.hns_p2p_types.specs.Packets.{signed, signed_bits}
-use Rattle.hns_p2p_frame.specs.declared.Encoded.TheVariants as E
-use Rattle.hns_refusals.specs.declared.Checked.{Checked}
-use Rattle.hns_refusals.specs.declared.Checked.TheVariants as C
 use Rattle.hns_p2p_plans.specs.Tests.{within, text_tests, reject_tests, index_tests}
 use Rattle.hns_p2p_block_puts.specs.declared.AddressFields.{AddressFields}
 use Rattle.hns_p2p_block_puts.specs.declared.VersionFields.{VersionFields}
@@ -21,8 +18,8 @@ use Rattle.hns_p2p_writer.specs.Writing.{exit, writing}
 -- every writer: where it answers n, the output's first n bytes read as the value that it wrote
 abbrev pub WriterReadsBack : Type 0
 WriterReadsBack =
-    (f : Format) (v : Value f) → Fit f v → (tests : Checked) (o o' : List ℕ) (n : ℕ)
-    → exit (E.Written n) o' ≡ writing tests (write f v) o → to_end (read f) (take n o') ≡ got v n
+    (f : Format) (v : Value f) → Fit f v → (tests : Answer (Unit {0})) (o o' : List ℕ) (n : ℕ)
+    → exit (Ok n) o' ≡ writing tests (write f v) o → to_end (read f) (take n o') ≡ got v n
 
 -- ---- what the tests pass can be written
 
@@ -41,19 +38,19 @@ pub record VersionHeld (v : VersionFields) : Type 0 where
   pub height : v.height < 2 ^ 32
 
 pub record TestedFits : Type 0 where
-  pub version : (v : VersionFields) (agent : List ℕ) → VersionHeld v → text_tests agent_field agent ≡ C.Passed → Fit version (version_of v agent)
+  pub version : (v : VersionFields) (agent : List ℕ) → VersionHeld v → text_tests agent_field agent ≡ Ok tt → Fit version (version_of v agent)
   pub reject :
       (t code : ℕ) (reason : List ℕ) (present : Bool) (hash : List ℕ) → t < 256 → code < 256 → length hash ≡ 32
-      → reject_tests t reason present ≡ C.Passed → Fit reject (reject_of t code reason hash)
-  pub addr : (s : List ℕ) → Bytes s → within (length s / 67) max_addresses address_field ≡ C.Passed → Fit addresses (addresses_of s)
+      → reject_tests t reason present ≡ Ok tt → Fit reject (reject_of t code reason hash)
+  pub addr : (s : List ℕ) → Bytes s → within (length s / 67) max_addresses address_field ≡ Ok tt → Fit addresses (addresses_of s)
   -- inventory, hashes and headers
   pub lists :
       (f : Format) (x : Fixed f) (s : List ℕ) → Bytes s → (limit field : ℕ) → limit < 2 ^ 64
-      → within (length s / size f) limit field ≡ C.Passed → Fit (counted limit field f) (flat f x s)
+      → within (length s / size f) limit field ≡ Ok tt → Fit (counted limit field f) (flat f x s)
   pub locator :
-      (s stop : List ℕ) → Bytes s → length stop ≡ 32 → within (length s / size (raw 32)) max_locator locator_field ≡ C.Passed
+      (s stop : List ℕ) → Bytes s → length stop ≡ 32 → within (length s / size (raw 32)) max_locator locator_field ≡ Ok tt
       → Fit locator (hashes_of s, stop)
-  pub getblocktxn : (hash is : List ℕ) → length hash ≡ 32 → index_tests is ≡ C.Passed → Fit getblocktxn (hash, is)
+  pub getblocktxn : (hash is : List ℕ) → length hash ≡ 32 → index_tests is ≡ Ok tt → Fit getblocktxn (hash, is)
   -- writers without tests of their own
   pub nonce : (v : ℕ) → v < 2 ^ 64 → Fit nonce v
   pub feefilter : (rate : ℤ) → SFits w64 rate → Fit feefilter (signed_bits rate)

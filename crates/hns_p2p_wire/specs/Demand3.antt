@@ -1,5 +1,5 @@
 -- Demand 3, whole: lists of pushes (`Demand3Holds` of hns_p2p_stream), and every payload that reads as a packet, written again from that packet.
-use Rattle.std.specs.Prelude.{ℕ, ◌≤◌, ◌≡◌, List, length, take}
+use Rattle.std.specs.Prelude.{ℕ, ◌≤◌, ◌≡◌, List, length, take, Ok, Err}
 use Rattle.hns_encoding.specs.Bytes.{Bytes, Outcome, got, stop}
 use Rattle.hns_encoding.specs.Format.{Value}
 use Rattle.hns_encoding.specs.Put.{splice}
@@ -7,7 +7,6 @@ use Rattle.hns_p2p_types.specs.Protocol.{Layout, read_by}
 use Rattle.hns_p2p_types.specs.Packets.{layout, packet_of, read_packet}
 use Rattle.hns_p2p_rights.specs.Terms.{Terms}
 use Rattle.hns_p2p_admission.specs.Reading.{read_under, read_packet_under}
-use Rattle.hns_p2p_frame.specs.declared.Encoded.TheVariants as E
 use Rattle.hns_p2p_frame.specs.Frame.{Written}
 use Rattle.hns_p2p_stream.specs.Stream.{Demand3Holds}
 use Rattle.hns_p2p_writer.specs.Writing.{exit}
@@ -24,7 +23,7 @@ reading l s = (length s, read_by l s)
 -- what a writer answered and left in the output o, for a payload s that read as v
 pub record Again (l : Layout) (s : List ℕ) (v : Value (l (length s))) (o : List ℕ) (end : Written) : Type 0 where
   -- the payload with what is not kept set to zero stands at the output's front, and no other byte changed
-  pub answer : end.answer ≡ E.Written (length s)
+  pub answer : end.answer ≡ Ok (length s)
   pub output : end.output ≡ splice o 0 (zeroed l s)
   pub written : take (length s) end.output ≡ zeroed l s
   -- it is as long as the payload, and reads as what that reads as
@@ -58,7 +57,7 @@ pub record SameAnswer : Type 0 where
 
 abbrev pub rewritten_by : {A : Type 0} → (A → List ℕ → Written) → Outcome A → List ℕ → Written
 rewritten_by writes (got v last) o = writes v o
-rewritten_by writes (stop r) o = exit (E.Refused r) o
+rewritten_by writes (stop r) o = exit (Err r) o
 
 -- the payload's own refusal, or what the writer of its type gives
 unfoldable pub rewriting : ℕ → List ℕ → List ℕ → Written

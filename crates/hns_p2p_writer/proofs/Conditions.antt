@@ -7,8 +7,8 @@ use borrow.Author.Tests.{le-leb, lt-leb}
 use Rattle.hns_refusals.specs.Limits.{max_payload}
 use Rattle.hns_encoding.proofs.Outcomes.{choose_leb}
 use Rattle.hns_p2p_frame.specs.Frame.{Written}
-use Rattle.hns_refusals.specs.declared.Checked.{Checked}
-use Rattle.hns_refusals.specs.declared.Checked.TheVariants as C
+use Rattle.std.specs.Prelude.{Ok, Err}
+use Rattle.hns_refusals.specs.Refusals.{Answer}
 use Rattle.hns_refusals.specs.Checks.{first}
 use Rattle.hns_p2p_plans.specs.Tests.{room}
 use Rattle.hns_p2p_writer.specs.Writing.{settle, writing}
@@ -17,15 +17,15 @@ use Rattle.hns_p2p_writer.specs.Conditions.{WritingIs, WritingExactly, PlanLengt
 use Rattle.hns_p2p_writer.proofs.Lengths.{length_addr, length_inventory, length_headers, length_locator, length_indexes, length_version, length_reject}
 
 -- by what the tests answer
-by_tests : (tests k : Checked) (x o : List ℕ) → tests ≡ k → WritingIs tests x o (writing k x o)
+by_tests : (tests k : Answer (Unit {0})) (x o : List ℕ) → tests ≡ k → WritingIs tests x o (writing k x o)
 unfolding writing settle first room
-by_tests tests C.Passed x o e =
-    choose_leb (λ (c : Checked). WritingIs tests x o (settle c x o)) (length x) max_payload
-    (λ a. choose_leb (λ (c : Checked). WritingIs tests x o (settle c x o)) (length x) (length o) (λ b. W.fits e a b) (λ b. W.short e a b))
+by_tests tests (Ok u) x o e =
+    choose_leb (λ (c : Answer (Unit {0})). WritingIs tests x o (settle c x o)) (length x) max_payload
+    (λ a. choose_leb (λ (c : Answer (Unit {0})). WritingIs tests x o (settle c x o)) (length x) (length o) (λ b. W.fits e a b) (λ b. W.short e a b))
     (λ a. W.large e a)
-by_tests tests (C.Refused r) x o e = W.own e
+by_tests tests (Err r) x o e = W.own e
 
-writing_is : {tests : Checked} {x o : List ℕ} {w : Written} → WritingIs tests x o w → writing tests x o ≡ w
+writing_is : {tests : Answer (Unit {0})} {x o : List ℕ} {w : Written} → WritingIs tests x o w → writing tests x o ≡ w
 unfolding writing settle first room
 writing_is (W.own e) = rw e
 writing_is {x = x} (W.large e a) = rw (e, lt-leb (length x) max_payload a)

@@ -4,16 +4,22 @@ use mathlib.Core.Path.{◌≡◌, refl, sym}
 use mathlib.Core.Bool.{Bool, true, false}
 use mathlib.Core.List.{List, []}
 use native.Mathlib.Omega.{arith}
-use lib.ListN.{length, length-append}
-use Rattle.hns_encoding.specs.Bytes.{Bytes, choose}
+use lib.ListN.{length, get_or, take, length-append}
+use lib.Seq.{take_all}
+use mir.Syntax.{w8}
+use mir.Val.{Fits}
+use Rattle.hns_encoding.specs.Bytes.{le_bytes, Bytes, choose}
 use Rattle.hns_encoding.specs.Compact.{compact_bytes}
-use Rattle.hns_encoding.specs.Format.{num, raw, nothing, differences, write}
-use Rattle.hns_encoding.proofs.Numbers.{length_le_bytes}
+use Rattle.hns_encoding.specs.Format.{raw, nothing, differences, write}
+use Rattle.hns_encoding.proofs.Numbers.{length_le_bytes, bytes_known}
 use Rattle.hns_encoding.proofs.Puts.{put_none}
 use Rattle.hns_p2p_types.specs.Protocol.{empty, addresses, inventory, locator, headers, version, reject, carries_hash, sendcmpct, getblocktxn, getproof}
-use Rattle.hns_p2p_frame.specs.declared.Encoded.TheVariants as E
-use Rattle.hns_refusals.specs.declared.Checked.TheVariants as C
-use Rattle.hns_p2p_plans.proofs.Tests.{has_room}
+use Rattle.std.specs.Prelude.{Ok}
+use Rattle.hns_refusals.specs.Refusals.{Answer}
+use Rattle.hns_encoding.specs.Put.{splice}
+use Rattle.hns_p2p_plans.specs.Tests.{planned, text_tests, reject_tests}
+use Rattle.hns_p2p_plans.proofs.Tests.{has_room, plan_passed}
+use Rattle.hns_p2p_plans.proofs.Texts.{text_fit, reject_short}
 use Rattle.hns_p2p_block_puts.specs.declared.VersionFields.{VersionFields}
 use Rattle.hns_p2p_block_puts.specs.Fields.{version_of, hash_if, reject_of}
 use Rattle.hns_p2p_list_puts.specs.Fields.{addresses_of, inventory_of, hashes_of, headers_of}
@@ -24,12 +30,7 @@ use Rattle.hns_p2p_writer.proofs.Writing.{written}
 
 -- ---- fixed fields
 
-pub length_raw : (s : List ℕ) → length s ≡ length (write (raw (length s)) s)
-unfolding write
-length_raw s = refl
-
-pub length_num : (n v : ℕ) → n ≡ length (write (num n) v)
-unfolding write
+pub length_num : (n v : ℕ) → n ≡ length (le_bytes n v)
 length_num n v = sym (length_le_bytes n v)
 
 pub length_sendcmpct : (mode version : ℕ) → 9 ≡ length (write sendcmpct (mode, version))
@@ -40,11 +41,15 @@ pub length_getproof : (root key : List ℕ) → length root ≡ 32 → length ke
 unfolding write
 length_getproof root key h k = simp (length-append, h, k)
 
-pub empty_written : (o : List ℕ) → exit (E.Written 0) o ≡ writing C.Passed (write empty tt) o
+pub empty_written : (o : List ℕ) → exit (Ok 0) o ≡ writing (Ok tt) (write empty tt) o
 unfolding write
-empty_written o = written C.Passed [] o refl (has_room 0 (length o) (omega arith) (omega arith)) refl (put_none o 0 (omega arith))
+empty_written o = written (Ok tt) [] o (has_room 0 (length o) (omega arith) (omega arith)) refl refl (put_none o 0 (omega arith)).bytes refl
 
 -- ---- lists
+
+-- what a slice of bytes is
+pub bytes_fit : (s : List ℕ) → ((i : ℕ) → Fits w8 (get_or s i 0)) → Bytes s
+bytes_fit s fits = bytes_known s (λ i. (fits i).fits)
 
 module _ (s : List ℕ) (bs : Bytes s) where
   pub length_addr : length (compact_bytes (length s / 67)) + length s / 67 * 88 ≡ length (write addresses (addresses_of s))
@@ -77,3 +82,16 @@ length_hash false hash h = refl
 pub length_reject : (t code : ℕ) (reason hash : List ℕ) → length hash ≡ 32 → 3 + length reason + choose (carries_hash t) 32 0 ≡ length (write reject (reject_of t code reason hash))
 unfolding write
 length_reject t code reason hash h = simp (length-append, length_le_bytes) (omega (arith, length_hash (carries_hash t) hash h))
+
+-- a text that the plan's tests let pass is put whole
+module _ (v : VersionFields) (agent o : List ℕ) {plan : Answer ℕ} (e : plan ≡ planned (text_tests 7 agent) (122 + length agent) (length o)) {m : ℕ} (q : plan ≡ Ok m) where
+  pub version_written : length v.remote.ip ≡ 16 → length v.remote.key ≡ 33 → {p : ℕ} → p ≡ 0 → {o' : List ℕ} → o' ≡ splice o p (write version (version_of v (take 255 agent))) → exit (Ok m) o' ≡ writing (text_tests 7 agent) (write version (version_of v agent)) o
+  version_written h k z put =
+      let all = take_all 255 agent (text_fit 7 agent (plan_passed _ _ _ e q)).0 in
+      written _ _ _ e q z (rw all at put) (length_version v agent h k)
+
+module _ (t code : ℕ) (reason hash : List ℕ) (present : Bool) (o : List ℕ) {plan : Answer ℕ} (e : plan ≡ planned (reject_tests t reason present) (3 + length reason + choose (carries_hash t) 32 0) (length o)) {m : ℕ} (q : plan ≡ Ok m) where
+  pub reject_written : length hash ≡ 32 → {p : ℕ} → p ≡ 0 → {o' : List ℕ} → o' ≡ splice o p (write reject (reject_of t code (take 255 reason) hash)) → exit (Ok m) o' ≡ writing (reject_tests t reason present) (write reject (reject_of t code reason hash)) o
+  reject_written h z put =
+      let all = take_all 255 reason (reject_short t reason present (plan_passed _ _ _ e q)) in
+      written _ _ _ e q z (rw all at put) (length_reject t code reason hash h)

@@ -1,32 +1,29 @@
 -- When a writer answers what, both directions; and that the length a plan says is the payload's.
-use Rattle.std.specs.Prelude.{ℕ, ◌+◌, ◌*◌, ◌/◌, ◌≤◌, ◌<◌, ◌≡◌, List, length}
+use Rattle.std.specs.Prelude.{ℕ, ◌+◌, ◌*◌, ◌/◌, ◌≤◌, ◌<◌, ◌≡◌, List, length, Ok, Err}
 use Rattle.hns_refusals.specs.declared.Refusal.{Refusal}
 use Rattle.hns_refusals.specs.Limits.{max_payload, block_header_size}
-use Rattle.hns_refusals.specs.Refusals.{payload_too_large, output_short}
+use Rattle.hns_refusals.specs.Refusals.{Answer, payload_too_large, output_short}
 use Rattle.hns_encoding.specs.Bytes.{Bytes, choose}
 use Rattle.hns_encoding.specs.Compact.{compact_bytes}
 use Rattle.hns_encoding.specs.Format.{raw, differences, size, write}
 use Rattle.hns_encoding.specs.Put.{splice}
 use Rattle.hns_p2p_types.specs.Protocol.{address, addresses, inventory_item, inventory, locator, headers, version, reject, carries_hash, getblocktxn}
-use Rattle.hns_p2p_frame.specs.declared.Encoded.TheVariants as E
 use Rattle.hns_p2p_frame.specs.Frame.{Written}
-use Rattle.hns_refusals.specs.declared.Checked.{Checked}
-use Rattle.hns_refusals.specs.declared.Checked.TheVariants as C
 use Rattle.hns_p2p_block_puts.specs.declared.VersionFields.{VersionFields}
 use Rattle.hns_p2p_block_puts.specs.Fields.{version_of, reject_of}
 use Rattle.hns_p2p_list_puts.specs.Fields.{flat_address, addresses_of, inventory_of, hashes_of, headers_of}
 use Rattle.hns_p2p_writer.specs.Writing.{exit, writing}
 
 -- a writer of the bytes x into the output o, after tests of its own
-pub data WritingIs (tests : Checked) (x o : List ℕ) : Written → Type 0 where
-  own : {r : Refusal} → tests ≡ C.Refused r → WritingIs tests x o (exit (E.Refused r) o)
-  large : tests ≡ C.Passed → max_payload < length x → WritingIs tests x o (exit (E.Refused (payload_too_large (length x))) o)
-  short : tests ≡ C.Passed → length x ≤ max_payload → length o < length x → WritingIs tests x o (exit (E.Refused (output_short (length x))) o)
-  fits : tests ≡ C.Passed → length x ≤ max_payload → length x ≤ length o → WritingIs tests x o (exit (E.Written (length x)) (splice o 0 x))
+pub data WritingIs (tests : Answer (Unit {0})) (x o : List ℕ) : Written → Type 0 where
+  own : {r : Refusal} → tests ≡ Err r → WritingIs tests x o (exit (Err r) o)
+  large : tests ≡ Ok tt → max_payload < length x → WritingIs tests x o (exit (Err (payload_too_large (length x))) o)
+  short : tests ≡ Ok tt → length x ≤ max_payload → length o < length x → WritingIs tests x o (exit (Err (output_short (length x))) o)
+  fits : tests ≡ Ok tt → length x ≤ max_payload → length x ≤ length o → WritingIs tests x o (exit (Ok (length x)) (splice o 0 x))
 
 -- `writing_exactly`, proofs/Conditions.antt
 abbrev pub WritingExactly : Type 0
-WritingExactly = (tests : Checked) (x o : List ℕ) (w : Written) → (writing tests x o ≡ w → WritingIs tests x o w) × (WritingIs tests x o w → writing tests x o ≡ w)
+WritingExactly = (tests : Answer (Unit {0})) (x o : List ℕ) (w : Written) → (writing tests x o ≡ w → WritingIs tests x o w) × (WritingIs tests x o w → writing tests x o ≡ w)
 
 -- `plan_lengths`, proofs/Conditions.antt: the numbers of the plans' contracts
 pub record PlanLengths : Type 0 where

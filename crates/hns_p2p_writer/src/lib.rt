@@ -7,94 +7,76 @@ ghost use Rattle.hns_p2p_writer.specs.Writers.{gives_version, gives_empty, gives
 
 use hns_encoder::Encoder;
 use hns_p2p_block_puts::VersionFields;
-use hns_p2p_frame::Encoded;
-use hns_p2p_plans::Plan;
+use hns_refusals::Refusal;
 
-pub fn write_version(fields: VersionFields, agent: &[u8], out: &mut [u8]) -> Encoded
+#[tactic(auto, using(crate::proofs::Writing::refused, crate::proofs::Lengths::version_written, crate::proofs::Lengths::length_version))]
+pub fn write_version(fields: VersionFields, agent: &[u8], out: &mut [u8]) -> Result<usize, Refusal>
     ensures { exit result out.new ≡ gives_version fields agent.now out.old }
 {
-    match hns_p2p_plans::plan_version(agent, out.len()) {
-        Plan::Refused(why) => Encoded::Refused(why),
-        Plan::Write(needed) => {
-            hns_p2p_block_puts::put_version(Encoder::new(), out, fields, agent);
-            Encoded::Written(needed)
-        }
-    }
+    let needed = hns_p2p_plans::plan_version(agent, out.len())?;
+    hns_p2p_block_puts::put_version(Encoder::new(), out, fields, agent);
+    Ok(needed)
 }
 
 // The types with an empty payload.
-pub fn write_empty(out: &mut [u8]) -> Encoded
+pub fn write_empty(out: &mut [u8]) -> Result<usize, Refusal>
     ensures { exit result out.new ≡ gives_empty out.old }
 {
-    Encoded::Written(0)
+    Ok(0)
 }
 
 // The nonce of a ping or a pong.
-pub fn write_nonce(nonce: u64, out: &mut [u8]) -> Encoded
+#[tactic(auto, using(crate::proofs::Writing::refused, crate::proofs::Writing::written, crate::proofs::Lengths::length_num), unfolding(hns_encoding::specs::Format::write))]
+pub fn write_nonce(nonce: u64, out: &mut [u8]) -> Result<usize, Refusal>
     ensures { exit result out.new ≡ gives_nonce nonce out.old }
 {
-    match hns_p2p_plans::plan_room(8, out.len()) {
-        Plan::Refused(why) => Encoded::Refused(why),
-        Plan::Write(needed) => {
-            Encoder::new().put_u64_le(out, nonce);
-            Encoded::Written(needed)
-        }
-    }
+    let needed = hns_p2p_plans::plan_room(8, out.len())?;
+    Encoder::new().put_u64_le(out, nonce);
+    Ok(needed)
 }
 
 // Whole items of 67 bytes: time 8, services 8, ip 16, port 2, key 33.
-pub fn write_addr(items: &[u8], out: &mut [u8]) -> Encoded
+#[tactic(auto, using(crate::proofs::Writing::refused, crate::proofs::Writing::written, crate::proofs::Lengths::length_addr, crate::proofs::Lengths::bytes_fit))]
+pub fn write_addr(items: &[u8], out: &mut [u8]) -> Result<usize, Refusal>
     ensures { exit result out.new ≡ gives_addr items.now out.old }
 {
-    match hns_p2p_plans::plan_addr(items.len() / 67, out.len()) {
-        Plan::Refused(why) => Encoded::Refused(why),
-        Plan::Write(needed) => {
-            hns_p2p_list_puts::put_addr(Encoder::new(), out, items);
-            Encoded::Written(needed)
-        }
-    }
+    let needed = hns_p2p_plans::plan_addr(items.len() / 67, out.len())?;
+    hns_p2p_list_puts::put_addr(Encoder::new(), out, items);
+    Ok(needed)
 }
 
 // Of inv, getdata and notfound: whole items of 36 bytes, kind 4 and hash 32.
-pub fn write_inventory(items: &[u8], out: &mut [u8]) -> Encoded
+#[tactic(auto, using(crate::proofs::Writing::refused, crate::proofs::Writing::written, crate::proofs::Lengths::length_inventory, crate::proofs::Lengths::bytes_fit))]
+pub fn write_inventory(items: &[u8], out: &mut [u8]) -> Result<usize, Refusal>
     ensures { exit result out.new ≡ gives_inventory items.now out.old }
 {
-    match hns_p2p_plans::plan_inventory(items.len() / 36, out.len()) {
-        Plan::Refused(why) => Encoded::Refused(why),
-        Plan::Write(needed) => {
-            hns_p2p_list_puts::put_inventory(Encoder::new(), out, items);
-            Encoded::Written(needed)
-        }
-    }
+    let needed = hns_p2p_plans::plan_inventory(items.len() / 36, out.len())?;
+    hns_p2p_list_puts::put_inventory(Encoder::new(), out, items);
+    Ok(needed)
 }
 
 // Of getblocks and getheaders: whole hashes of 32 bytes.
-pub fn write_locator(hashes: &[u8], stop: [u8; 32], out: &mut [u8]) -> Encoded
+#[tactic(auto, using(crate::proofs::Writing::refused, crate::proofs::Writing::written, crate::proofs::Lengths::length_locator, crate::proofs::Lengths::bytes_fit))]
+pub fn write_locator(hashes: &[u8], stop: [u8; 32], out: &mut [u8]) -> Result<usize, Refusal>
     ensures { exit result out.new ≡ gives_locator hashes.now stop out.old }
 {
-    match hns_p2p_plans::plan_locator(hashes.len() / 32, out.len()) {
-        Plan::Refused(why) => Encoded::Refused(why),
-        Plan::Write(needed) => {
-            hns_p2p_list_puts::put_locator(Encoder::new(), out, hashes, stop);
-            Encoded::Written(needed)
-        }
-    }
+    let needed = hns_p2p_plans::plan_locator(hashes.len() / 32, out.len())?;
+    hns_p2p_list_puts::put_locator(Encoder::new(), out, hashes, stop);
+    Ok(needed)
 }
 
 // Whole headers of 236 bytes.
-pub fn write_headers(items: &[u8], out: &mut [u8]) -> Encoded
+#[tactic(auto, using(crate::proofs::Writing::refused, crate::proofs::Writing::written, crate::proofs::Lengths::length_headers, crate::proofs::Lengths::bytes_fit))]
+pub fn write_headers(items: &[u8], out: &mut [u8]) -> Result<usize, Refusal>
     ensures { exit result out.new ≡ gives_headers items.now out.old }
 {
-    match hns_p2p_plans::plan_headers(items.len() / 236, out.len()) {
-        Plan::Refused(why) => Encoded::Refused(why),
-        Plan::Write(needed) => {
-            hns_p2p_list_puts::put_headers(Encoder::new(), out, items);
-            Encoded::Written(needed)
-        }
-    }
+    let needed = hns_p2p_plans::plan_headers(items.len() / 236, out.len())?;
+    hns_p2p_list_puts::put_headers(Encoder::new(), out, items);
+    Ok(needed)
 }
 
 // The hash counts only where it is present.
+#[tactic(auto, using(crate::proofs::Writing::refused, crate::proofs::Lengths::reject_written, crate::proofs::Lengths::length_reject))]
 pub fn write_reject(
     message: u8,
     code: u8,
@@ -102,69 +84,53 @@ pub fn write_reject(
     present: bool,
     hash: [u8; 32],
     out: &mut [u8],
-) -> Encoded
+) -> Result<usize, Refusal>
     ensures { exit result out.new ≡ gives_reject message code reason.now present hash out.old }
 {
-    match hns_p2p_plans::plan_reject(message, reason, present, out.len()) {
-        Plan::Refused(why) => Encoded::Refused(why),
-        Plan::Write(needed) => {
-            hns_p2p_block_puts::put_reject(Encoder::new(), out, message, code, reason, hash);
-            Encoded::Written(needed)
-        }
-    }
+    let needed = hns_p2p_plans::plan_reject(message, reason, present, out.len())?;
+    hns_p2p_block_puts::put_reject(Encoder::new(), out, message, code, reason, hash);
+    Ok(needed)
 }
 
-pub fn write_feefilter(rate: i64, out: &mut [u8]) -> Encoded
+pub fn write_feefilter(rate: i64, out: &mut [u8]) -> Result<usize, Refusal>
     ensures { exit result out.new ≡ gives_fee_filter rate out.old }
 {
     write_nonce(hns_p2p_types::signed_bits(rate), out)
 }
 
-pub fn write_sendcmpct(mode: u8, version: u64, out: &mut [u8]) -> Encoded
+#[tactic(auto, using(crate::proofs::Writing::refused, crate::proofs::Writing::written, crate::proofs::Lengths::length_sendcmpct))]
+pub fn write_sendcmpct(mode: u8, version: u64, out: &mut [u8]) -> Result<usize, Refusal>
     ensures { exit result out.new ≡ gives_send_cmpct mode version out.old }
 {
-    match hns_p2p_plans::plan_room(9, out.len()) {
-        Plan::Refused(why) => Encoded::Refused(why),
-        Plan::Write(needed) => {
-            hns_p2p_block_puts::put_sendcmpct(Encoder::new(), out, mode, version);
-            Encoded::Written(needed)
-        }
-    }
+    let needed = hns_p2p_plans::plan_room(9, out.len())?;
+    hns_p2p_block_puts::put_sendcmpct(Encoder::new(), out, mode, version);
+    Ok(needed)
 }
 
-pub fn write_getblocktxn(hash: [u8; 32], indexes: &[u64], out: &mut [u8]) -> Encoded
+#[tactic(auto, using(crate::proofs::Writing::refused, crate::proofs::Writing::written, crate::proofs::Lengths::length_indexes))]
+pub fn write_getblocktxn(hash: [u8; 32], indexes: &[u64], out: &mut [u8]) -> Result<usize, Refusal>
     ensures { exit result out.new ≡ gives_get_block_txn hash indexes.now out.old }
 {
-    match hns_p2p_plans::plan_getblocktxn(indexes, out.len()) {
-        Plan::Refused(why) => Encoded::Refused(why),
-        Plan::Write(needed) => {
-            hns_p2p_list_puts::put_getblocktxn(Encoder::new(), out, hash, indexes);
-            Encoded::Written(needed)
-        }
-    }
+    let needed = hns_p2p_plans::plan_getblocktxn(indexes, out.len())?;
+    hns_p2p_list_puts::put_getblocktxn(Encoder::new(), out, hash, indexes);
+    Ok(needed)
 }
 
-pub fn write_getproof(root: [u8; 32], key: [u8; 32], out: &mut [u8]) -> Encoded
+#[tactic(auto, using(crate::proofs::Writing::refused, crate::proofs::Writing::written, crate::proofs::Lengths::length_getproof))]
+pub fn write_getproof(root: [u8; 32], key: [u8; 32], out: &mut [u8]) -> Result<usize, Refusal>
     ensures { exit result out.new ≡ gives_get_proof root key out.old }
 {
-    match hns_p2p_plans::plan_room(64, out.len()) {
-        Plan::Refused(why) => Encoded::Refused(why),
-        Plan::Write(needed) => {
-            hns_p2p_block_puts::put_getproof(Encoder::new(), out, root, key);
-            Encoded::Written(needed)
-        }
-    }
+    let needed = hns_p2p_plans::plan_room(64, out.len())?;
+    hns_p2p_block_puts::put_getproof(Encoder::new(), out, root, key);
+    Ok(needed)
 }
 
 // Bytes as they stand, of the raw types and the carried ones.
-pub fn write_raw(payload: &[u8], out: &mut [u8]) -> Encoded
+#[tactic(auto, using(crate::proofs::Writing::refused, crate::proofs::Writing::written), unfolding(hns_encoding::specs::Format::write))]
+pub fn write_raw(payload: &[u8], out: &mut [u8]) -> Result<usize, Refusal>
     ensures { exit result out.new ≡ gives_raw payload.now out.old }
 {
-    match hns_p2p_plans::plan_room(payload.len(), out.len()) {
-        Plan::Refused(why) => Encoded::Refused(why),
-        Plan::Write(needed) => {
-            Encoder::new().put_bytes(out, payload);
-            Encoded::Written(needed)
-        }
-    }
+    let needed = hns_p2p_plans::plan_room(payload.len(), out.len())?;
+    Encoder::new().put_bytes(out, payload);
+    Ok(needed)
 }

@@ -12,7 +12,7 @@ returns c =
     ⨟ c.put_u32_le-e-2.ensures
     ⨟ c.put_host-e.ensures
     ⨟ c.put_u16_le-e.ensures
-    ⨟ (λ h. c.put_bytes.ensures))
+    ⨟ (λ h. c.put_array.ensures))
     (omega arith)
 
 pub shape_of-out : goal.shape_of-out

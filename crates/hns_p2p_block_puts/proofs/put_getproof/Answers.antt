@@ -6,6 +6,6 @@ use Rattle.hns_p2p_block_puts.proofs.put_getproof.Goals as goal
 pub returns : goal.returns
 unfolding write
 returns c =
-    (c.put_array32-e.ensures
-    ⨟ (λ h. c.put_array32.ensures))
+    (c.put_array.ensures
+    ⨟ (λ h. c.put_array-2.ensures))
     (omega arith)

@@ -5,8 +5,8 @@ use Rattle.hns_p2p_block_puts.proofs.put_hash.Goals as goal
 
 pub returns-then-carries : goal.returns-then-carries
 unfolding write
-returns-then-carries c = rw c.if-carries.true c.put_array32.ensures
+returns-then-carries c = rw c.if-carries.true c.put_array.ensures
 
-pub returns : goal.returns
+pub returns-else-carries : goal.returns-else-carries
 unfolding write
-returns c = rw c.if-carries.false (put_none _ _ (omega arith))
+returns-else-carries c = rw c.if-carries.false (put_none _ _ (omega arith))

@@ -7,6 +7,6 @@ pub returns : goal.returns
 unfolding write
 returns c =
     (c.put_u8-e.ensures
-    ⨟ c.put_bytes-e.ensures
-    ⨟ (λ h. c.put_bytes.ensures))
+    ⨟ c.put_array-e.ensures
+    ⨟ (λ h. c.put_array.ensures))
     (omega arith)

@@ -5,5 +5,4 @@ use Rattle.hns_p2p_inventory.proofs.put_item.Goals as goal
 
 pub returns : goal.returns
 unfolding item_bytes
-returns c =
-    (c.put_u32_le-e.ensures ⨟ (λ h. c.put_array32.ensures)) (omega arith)
+returns c = (c.put_u32_le-e.ensures ⨟ (λ h. c.put_array.ensures)) (omega arith)

@@ -1,20 +1,17 @@
--- `write_inventory_items` meets its contract: what is written is in `Items.antt`.
 use native.Mathlib.Omega.{arith}
-use Rattle.hns_p2p_inventory.proofs.Items.{inside, turns, ends, written_all}
+use Rattle.hns_encoding.proofs.Puts.{then}
+use Rattle.hns_p2p_list_puts.proofs.Rests.{first_turn, next_turn, last_turn}
+use Rattle.hns_p2p_inventory.specs.Items.{item_bytes}
+use Rattle.hns_p2p_inventory.proofs.Items.{none, items_written}
 use Rattle.hns_p2p_inventory.proofs.write_inventory_items.Goals as goal
 
-pub offset_bounds-items-i : goal.offset_bounds-items-i
-offset_bounds-items-i c =
-    let less = inside c.args.items.now c.plan_inventory-plan.result c.args.out.now 0 c.loop-i.i (omega (arith, c.accepted-n.ensures)) in
-    omega arith
+pub loop-item-init : goal.loop-item-init
+loop-item-init c = first_turn item_bytes _ _ _ (omega arith) (omega arith)
 
-pub bounds-items-i : goal.bounds-items-i
-bounds-items-i c = inside c.args.items.now c.plan_inventory-plan.result c.args.out.now 0 c.loop-i.i (omega (arith, c.accepted-n.ensures))
-
-pub loop-i-preserved : goal.loop-i-preserved
-loop-i-preserved c = turns c.args.items.now c.plan_inventory-plan.result _ _ _ _ _ _ _ c.loop-i.invariant (omega (arith, c.accepted-n.ensures)) c.put_item-encoder.ensures
+pub loop-item-preserved : goal.loop-item-preserved
+loop-item-preserved c = next_turn item_bytes _ _ _ c.loop-item.invariant none c.loop-item-test.true c.put_item-e.ensures
 
 pub returns : goal.returns
 returns c =
-    let put = ends c.args.items.now c.plan_inventory-plan.result _ _ _ _ _ c.loop-i.invariant (omega (arith, c.accepted-n.ensures)) in
-    rw c.encoded.ensures (written_all c.args.items.now c.all_whole.ensures c.args.out.now (omega arith) c.plan_inventory-plan.result c.plan_inventory-plan.ensures _ _ c.put_count-encoder.ensures _ _ put)
+    let loop = last_turn item_bytes _ _ _ c.loop-item.invariant c.loop-item-test.false in
+    items_written c.args.items.now c.all_whole.ensures c.args.out.now c.plan_inventory.ensures c.in_ok-needed.was c.new.ensures (then (omega arith) c.put_compact_size-e.ensures loop)

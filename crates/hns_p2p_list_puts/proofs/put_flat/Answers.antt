@@ -6,8 +6,8 @@ use lib.Seq.{length-take-le}
 use Rattle.hns_encoding.proofs.Puts.{◌⨟◌}
 use Rattle.hns_p2p_list_puts.proofs.put_flat.Goals as goal
 
-pub overflow_mul-bytes : goal.overflow_mul-bytes
-overflow_mul-bytes c = omega (arith, div-mul-le_self (length c.args.items.now) c.args.width)
+pub overflow_mul-count : goal.overflow_mul-count
+overflow_mul-count c = omega (arith, div-mul-le_self (length c.args.items.now) c.args.width)
 
 -- the whole items are not more than the bytes
 pub slice_bounds-put_bytes-end : goal.slice_bounds-put_bytes-end

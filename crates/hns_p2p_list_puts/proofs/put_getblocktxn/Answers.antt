@@ -6,7 +6,7 @@ use Rattle.hns_p2p_list_puts.proofs.put_getblocktxn.Goals as goal
 pub returns : goal.returns
 unfolding write
 returns c =
-    (c.put_array32-e.ensures
+    (c.put_array-e.ensures
     ⨟ c.put_compact_size-e.ensures
     ⨟ (λ h. c.put_differences.ensures))
     (omega arith)

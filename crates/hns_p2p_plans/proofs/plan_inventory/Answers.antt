@@ -1,5 +1,0 @@
-use Rattle.hns_p2p_plans.proofs.Tests.{no_rest}
-use Rattle.hns_p2p_plans.proofs.plan_inventory.Goals as goal
-
-pub returns : goal.returns
-returns c = no_rest _ _ _ c.plan_list.ensures
