@@ -1,5 +1,8 @@
 //! The port for callers in C and Rust: numbers and byte slices in, rows of six numbers out.
 //!
+//! Names, parameters and rows are those of hns_ffi.h: one function for each call that C makes, with a row of numbers for its
+//! answer and a clause that says so.
+//!
 //! A library exports nothing, whatever its functions say: hns_ffi_c has the exports, and the test programs call this one.
 #![tactic(auto)]
 
@@ -7,20 +10,21 @@ ghost use Rattle.std.specs.Prelude.{◌≡◌, ◌∷◌, [], length};
 ghost use Rattle.hns_encoding.specs.Bytes.{le_bytes, bytes_at, le_at, end_at};
 ghost use Rattle.hns_encoding.specs.Compact.{compact_at, compact_bytes, count_at, bounded_at, varbytes_at, varbytes, sizes_at};
 ghost use Rattle.hns_encoding.specs.Put.{Put, splice};
-ghost use Rattle.hns_encoding.specs.Answers.{number_of, slice_of, finished_of, sizes_of};
+ghost use Rattle.hns_encoding.specs.Answers.{result_of, range_of, finished_of, sizes_of};
 ghost use Rattle.hns_encoding.specs.Format.{write};
 ghost use Rattle.hns_header_consensus.specs.Layout.{header, decode_header, header_at};
 ghost use Rattle.hns_header_consensus.specs.Answers.{fields_of, decoded_of};
 ghost use Rattle.hns_header_hashes.specs.Hashes.{hashes_kept, header_from};
-ghost use Rattle.hns_rows.specs.Rows.{answered, number_row, sizes_row, slice_row, finished_row, header_row};
+ghost use Rattle.hns_rows.specs.Rows.{answered, number_row, sizes_row, slice_row, checked_row, header_row};
 
 use hns_encoder::Encoder;
-use hns_header_consensus::Header;
+use hns_header_consensus::{HEADER_SIZE, Header};
+use hns_refusals::Refusal;
 
 // Reads at a place. A number's row has its value and the place after it.
 #[unsafe(no_mangle)]
 pub extern "C" fn hns_read_u8(input: &[u8], position: usize, answer: &mut [u64])
-    ensures { answer.new ≡ answered answer.old (number_row (number_of (le_at 1 input.now position))) }
+    ensures { answer.new ≡ answered answer.old (number_row (result_of (le_at 1 input.now position))) }
 {
     hns_rows::put_row(
         answer,
@@ -30,7 +34,7 @@ pub extern "C" fn hns_read_u8(input: &[u8], position: usize, answer: &mut [u64])
 
 #[unsafe(no_mangle)]
 pub extern "C" fn hns_read_u16_le(input: &[u8], position: usize, answer: &mut [u64])
-    ensures { answer.new ≡ answered answer.old (number_row (number_of (le_at 2 input.now position))) }
+    ensures { answer.new ≡ answered answer.old (number_row (result_of (le_at 2 input.now position))) }
 {
     hns_rows::put_row(
         answer,
@@ -40,7 +44,7 @@ pub extern "C" fn hns_read_u16_le(input: &[u8], position: usize, answer: &mut [u
 
 #[unsafe(no_mangle)]
 pub extern "C" fn hns_read_u32_le(input: &[u8], position: usize, answer: &mut [u64])
-    ensures { answer.new ≡ answered answer.old (number_row (number_of (le_at 4 input.now position))) }
+    ensures { answer.new ≡ answered answer.old (number_row (result_of (le_at 4 input.now position))) }
 {
     hns_rows::put_row(
         answer,
@@ -50,7 +54,7 @@ pub extern "C" fn hns_read_u32_le(input: &[u8], position: usize, answer: &mut [u
 
 #[unsafe(no_mangle)]
 pub extern "C" fn hns_read_u64_le(input: &[u8], position: usize, answer: &mut [u64])
-    ensures { answer.new ≡ answered answer.old (number_row (number_of (le_at 8 input.now position))) }
+    ensures { answer.new ≡ answered answer.old (number_row (result_of (le_at 8 input.now position))) }
 {
     hns_rows::put_row(
         answer,
@@ -60,7 +64,7 @@ pub extern "C" fn hns_read_u64_le(input: &[u8], position: usize, answer: &mut [u
 
 #[unsafe(no_mangle)]
 pub extern "C" fn hns_read_compact_size(input: &[u8], position: usize, answer: &mut [u64])
-    ensures { answer.new ≡ answered answer.old (number_row (number_of (compact_at input.now position))) }
+    ensures { answer.new ≡ answered answer.old (number_row (result_of (compact_at input.now position))) }
 {
     hns_rows::put_row(
         answer,
@@ -75,7 +79,7 @@ pub extern "C" fn hns_read_compact_usize(
     maximum: usize,
     answer: &mut [u64],
 )
-    ensures { answer.new ≡ answered answer.old (number_row (number_of (count_at maximum 0 input.now position))) }
+    ensures { answer.new ≡ answered answer.old (number_row (result_of (count_at maximum 0 input.now position))) }
 {
     hns_rows::put_row(
         answer,
@@ -101,7 +105,7 @@ pub extern "C" fn hns_read_compact_sizes(
 // Bytes are answered by their place: where they begin and the place after them.
 #[unsafe(no_mangle)]
 pub extern "C" fn hns_read_slice(input: &[u8], position: usize, length: usize, answer: &mut [u64])
-    ensures { answer.new ≡ answered answer.old (slice_row (slice_of (bytes_at length input.now position))) }
+    ensures { answer.new ≡ answered answer.old (slice_row (range_of (bytes_at length input.now position))) }
 {
     hns_rows::put_row(
         answer,
@@ -117,7 +121,7 @@ pub extern "C" fn hns_read_bounded(
     maximum: usize,
     answer: &mut [u64],
 )
-    ensures { answer.new ≡ answered answer.old (slice_row (slice_of (bounded_at length maximum input.now position))) }
+    ensures { answer.new ≡ answered answer.old (slice_row (range_of (bounded_at length maximum input.now position))) }
 {
     hns_rows::put_row(
         answer,
@@ -132,7 +136,7 @@ pub extern "C" fn hns_read_varbytes(
     maximum: usize,
     answer: &mut [u64],
 )
-    ensures { answer.new ≡ answered answer.old (slice_row (slice_of (varbytes_at maximum input.now position))) }
+    ensures { answer.new ≡ answered answer.old (slice_row (range_of (varbytes_at maximum input.now position))) }
 {
     hns_rows::put_row(
         answer,
@@ -142,11 +146,11 @@ pub extern "C" fn hns_read_varbytes(
 
 #[unsafe(no_mangle)]
 pub extern "C" fn hns_finish(input: &[u8], position: usize, answer: &mut [u64])
-    ensures { answer.new ≡ answered answer.old (finished_row (finished_of (end_at input.now position))) }
+    ensures { answer.new ≡ answered answer.old (checked_row (finished_of (end_at input.now position))) }
 {
     hns_rows::put_row(
         answer,
-        hns_rows::of_finished(hns_encoding::finish(input, position)),
+        hns_rows::of_checked(hns_encoding::finish(input, position)),
     );
 }
 
@@ -200,17 +204,23 @@ pub extern "C" fn hns_put_varbytes(value: &[u8], out: &mut [u8], position: usize
     Encoder { position }.put_varbytes(out, value).position
 }
 
+// A header alone, and the place after it.
+#[tactic(auto, using(hns_header_consensus::proofs::Headers::decoded, hns_header_consensus::proofs::Headers::not_decoded))]
+fn decode_header(input: &[u8]) -> Result<(Header, usize), Refusal>
+    ensures { result ≡ decoded_of (decode_header input.now) }
+{
+    let header = Header::decode(input)?;
+    Ok((header, HEADER_SIZE))
+}
+
 // Headers. Their hashes stand side by side, as crates/hns_header_hashes/specs/Hashes.antt has them.
 #[unsafe(no_mangle)]
 pub extern "C" fn hns_decode_header(input: &[u8], hashes: &mut [u8], answer: &mut [u64])
-    ensures answer_after { answer.new ≡ answered answer.old (header_row (decoded_of (decode_header input.now)).answer (decoded_of (decode_header input.now)).header) }
-    ensures hashes_after { hashes.new ≡ hashes_kept (decoded_of (decode_header input.now)).answer (decoded_of (decode_header input.now)).header hashes.old }
+    ensures answer_after { answer.new ≡ answered answer.old (header_row (decoded_of (decode_header input.now))) }
+    ensures hashes_after { hashes.new ≡ hashes_kept (decoded_of (decode_header input.now)) hashes.old }
 {
     hns_header_hashes::keep_hashes(input, hashes);
-    let decoded = Header::decode(input);
-    let found = decoded.answer;
-    let header = decoded.header;
-    hns_rows::put_row(answer, hns_rows::of_header(found, header));
+    hns_rows::put_row(answer, hns_rows::of_header(decode_header(input)));
 }
 
 // A header at a place of a longer slice.
@@ -221,14 +231,14 @@ pub extern "C" fn hns_read_header(
     hashes: &mut [u8],
     answer: &mut [u64],
 )
-    ensures answer_after { answer.new ≡ answered answer.old (header_row (decoded_of (header_at input.now position)).answer (decoded_of (header_at input.now position)).header) }
-    ensures hashes_after { hashes.new ≡ hashes_kept (decoded_of (header_at input.now position)).answer (decoded_of (header_at input.now position)).header hashes.old }
+    ensures answer_after { answer.new ≡ answered answer.old (header_row (decoded_of (header_at input.now position))) }
+    ensures hashes_after { hashes.new ≡ hashes_kept (decoded_of (header_at input.now position)) hashes.old }
 {
     hns_header_hashes::keep_hashes_at(input, position, hashes);
-    let decoded = hns_header_consensus::read_header(input, position);
-    let found = decoded.answer;
-    let header = decoded.header;
-    hns_rows::put_row(answer, hns_rows::of_header(found, header));
+    hns_rows::put_row(
+        answer,
+        hns_rows::of_header(hns_header_consensus::read_header(input, position)),
+    );
 }
 
 // A hash that is not all there is put as zeros.

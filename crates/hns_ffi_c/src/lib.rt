@@ -1,48 +1,49 @@
 //! libhns_ffi.a for callers in C and Rust: each function of hns_ffi, exported with the contract that it has there.
+//! A static library exports its own functions alone, so each stands here once more.
 #![tactic(auto)]
 
 ghost use Rattle.std.specs.Prelude.{◌≡◌, ◌∷◌, [], length};
 ghost use Rattle.hns_encoding.specs.Bytes.{le_bytes, bytes_at, le_at, end_at};
 ghost use Rattle.hns_encoding.specs.Compact.{compact_at, compact_bytes, count_at, bounded_at, varbytes_at, varbytes, sizes_at};
 ghost use Rattle.hns_encoding.specs.Put.{Put, splice};
-ghost use Rattle.hns_encoding.specs.Answers.{number_of, slice_of, finished_of, sizes_of};
+ghost use Rattle.hns_encoding.specs.Answers.{result_of, range_of, finished_of, sizes_of};
 ghost use Rattle.hns_encoding.specs.Format.{write};
 ghost use Rattle.hns_header_consensus.specs.Layout.{header, decode_header, header_at};
 ghost use Rattle.hns_header_consensus.specs.Answers.{fields_of, decoded_of};
 ghost use Rattle.hns_header_hashes.specs.Hashes.{hashes_kept, header_from};
-ghost use Rattle.hns_rows.specs.Rows.{answered, number_row, sizes_row, slice_row, finished_row, header_row};
+ghost use Rattle.hns_rows.specs.Rows.{answered, number_row, sizes_row, slice_row, checked_row, header_row};
 
 #[unsafe(no_mangle)]
 pub extern "C" fn hns_read_u8(input: &[u8], position: usize, answer: &mut [u64])
-    ensures { answer.new ≡ answered answer.old (number_row (number_of (le_at 1 input.now position))) }
+    ensures { answer.new ≡ answered answer.old (number_row (result_of (le_at 1 input.now position))) }
 {
     hns_ffi::hns_read_u8(input, position, answer);
 }
 
 #[unsafe(no_mangle)]
 pub extern "C" fn hns_read_u16_le(input: &[u8], position: usize, answer: &mut [u64])
-    ensures { answer.new ≡ answered answer.old (number_row (number_of (le_at 2 input.now position))) }
+    ensures { answer.new ≡ answered answer.old (number_row (result_of (le_at 2 input.now position))) }
 {
     hns_ffi::hns_read_u16_le(input, position, answer);
 }
 
 #[unsafe(no_mangle)]
 pub extern "C" fn hns_read_u32_le(input: &[u8], position: usize, answer: &mut [u64])
-    ensures { answer.new ≡ answered answer.old (number_row (number_of (le_at 4 input.now position))) }
+    ensures { answer.new ≡ answered answer.old (number_row (result_of (le_at 4 input.now position))) }
 {
     hns_ffi::hns_read_u32_le(input, position, answer);
 }
 
 #[unsafe(no_mangle)]
 pub extern "C" fn hns_read_u64_le(input: &[u8], position: usize, answer: &mut [u64])
-    ensures { answer.new ≡ answered answer.old (number_row (number_of (le_at 8 input.now position))) }
+    ensures { answer.new ≡ answered answer.old (number_row (result_of (le_at 8 input.now position))) }
 {
     hns_ffi::hns_read_u64_le(input, position, answer);
 }
 
 #[unsafe(no_mangle)]
 pub extern "C" fn hns_read_compact_size(input: &[u8], position: usize, answer: &mut [u64])
-    ensures { answer.new ≡ answered answer.old (number_row (number_of (compact_at input.now position))) }
+    ensures { answer.new ≡ answered answer.old (number_row (result_of (compact_at input.now position))) }
 {
     hns_ffi::hns_read_compact_size(input, position, answer);
 }
@@ -54,7 +55,7 @@ pub extern "C" fn hns_read_compact_usize(
     maximum: usize,
     answer: &mut [u64],
 )
-    ensures { answer.new ≡ answered answer.old (number_row (number_of (count_at maximum 0 input.now position))) }
+    ensures { answer.new ≡ answered answer.old (number_row (result_of (count_at maximum 0 input.now position))) }
 {
     hns_ffi::hns_read_compact_usize(input, position, maximum, answer);
 }
@@ -74,7 +75,7 @@ pub extern "C" fn hns_read_compact_sizes(
 
 #[unsafe(no_mangle)]
 pub extern "C" fn hns_read_slice(input: &[u8], position: usize, length: usize, answer: &mut [u64])
-    ensures { answer.new ≡ answered answer.old (slice_row (slice_of (bytes_at length input.now position))) }
+    ensures { answer.new ≡ answered answer.old (slice_row (range_of (bytes_at length input.now position))) }
 {
     hns_ffi::hns_read_slice(input, position, length, answer);
 }
@@ -87,7 +88,7 @@ pub extern "C" fn hns_read_bounded(
     maximum: usize,
     answer: &mut [u64],
 )
-    ensures { answer.new ≡ answered answer.old (slice_row (slice_of (bounded_at length maximum input.now position))) }
+    ensures { answer.new ≡ answered answer.old (slice_row (range_of (bounded_at length maximum input.now position))) }
 {
     hns_ffi::hns_read_bounded(input, position, length, maximum, answer);
 }
@@ -99,14 +100,14 @@ pub extern "C" fn hns_read_varbytes(
     maximum: usize,
     answer: &mut [u64],
 )
-    ensures { answer.new ≡ answered answer.old (slice_row (slice_of (varbytes_at maximum input.now position))) }
+    ensures { answer.new ≡ answered answer.old (slice_row (range_of (varbytes_at maximum input.now position))) }
 {
     hns_ffi::hns_read_varbytes(input, position, maximum, answer);
 }
 
 #[unsafe(no_mangle)]
 pub extern "C" fn hns_finish(input: &[u8], position: usize, answer: &mut [u64])
-    ensures { answer.new ≡ answered answer.old (finished_row (finished_of (end_at input.now position))) }
+    ensures { answer.new ≡ answered answer.old (checked_row (finished_of (end_at input.now position))) }
 {
     hns_ffi::hns_finish(input, position, answer);
 }
@@ -162,8 +163,8 @@ pub extern "C" fn hns_put_varbytes(value: &[u8], out: &mut [u8], position: usize
 
 #[unsafe(no_mangle)]
 pub extern "C" fn hns_decode_header(input: &[u8], hashes: &mut [u8], answer: &mut [u64])
-    ensures answer_after { answer.new ≡ answered answer.old (header_row (decoded_of (decode_header input.now)).answer (decoded_of (decode_header input.now)).header) }
-    ensures hashes_after { hashes.new ≡ hashes_kept (decoded_of (decode_header input.now)).answer (decoded_of (decode_header input.now)).header hashes.old }
+    ensures answer_after { answer.new ≡ answered answer.old (header_row (decoded_of (decode_header input.now))) }
+    ensures hashes_after { hashes.new ≡ hashes_kept (decoded_of (decode_header input.now)) hashes.old }
 {
     hns_ffi::hns_decode_header(input, hashes, answer);
 }
@@ -175,8 +176,8 @@ pub extern "C" fn hns_read_header(
     hashes: &mut [u8],
     answer: &mut [u64],
 )
-    ensures answer_after { answer.new ≡ answered answer.old (header_row (decoded_of (header_at input.now position)).answer (decoded_of (header_at input.now position)).header) }
-    ensures hashes_after { hashes.new ≡ hashes_kept (decoded_of (header_at input.now position)).answer (decoded_of (header_at input.now position)).header hashes.old }
+    ensures answer_after { answer.new ≡ answered answer.old (header_row (decoded_of (header_at input.now position))) }
+    ensures hashes_after { hashes.new ≡ hashes_kept (decoded_of (header_at input.now position)) hashes.old }
 {
     hns_ffi::hns_read_header(input, position, hashes, answer);
 }

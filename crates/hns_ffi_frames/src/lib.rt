@@ -1,5 +1,8 @@
 //! Frames and the stream for callers in C and Rust, beside hns_ffi: numbers and byte slices in, rows of six numbers out.
 //!
+//! Names, parameters and rows are those of hns_ffi.h: one function for each call that C makes, with a row of numbers for its
+//! answer and a clause that says so.
+//!
 //! A library exports nothing, whatever its functions say: hns_ffi_frames_c has the exports, and the test programs call this one.
 #![tactic(auto)]
 
@@ -8,7 +11,7 @@ ghost use Rattle.hns_p2p_frame.specs.Frame.{front, decode_exact, write_frame};
 ghost use Rattle.hns_p2p_frame.specs.Push as Push;
 ghost use Rattle.hns_p2p_frame.specs.Answers.{prefix_of, exact_of};
 ghost use Rattle.hns_p2p_tally.specs.Tallying.{push_tallying};
-ghost use Rattle.hns_rows.specs.Rows.{answered, network_of, prefix_row, exact_row, encoded_row, pushed_row, delivered_row};
+ghost use Rattle.hns_rows.specs.Rows.{answered, network_of, prefix_row, exact_row, count_row, pushed_row, delivered_row};
 
 // Frames. Networks are 0 mainnet, 1 testnet, 2 regtest, and simnet from 3 on.
 #[unsafe(no_mangle)]
@@ -35,11 +38,11 @@ pub extern "C" fn hns_encode_frame(
     out: &mut [u8],
     answer: &mut [u64],
 )
-    ensures answer_after { answer.new ≡ answered answer.old (encoded_row (write_frame (network_of network) (record { packet_type = packet_type; payload = payload.now }) out.old).answer) }
+    ensures answer_after { answer.new ≡ answered answer.old (count_row (write_frame (network_of network) (record { packet_type = packet_type; payload = payload.now }) out.old).answer) }
     ensures out_after { out.new ≡ (write_frame (network_of network) (record { packet_type = packet_type; payload = payload.now }) out.old).output }
 {
     let encoded = hns_p2p_frame::encode(hns_rows::network_of(network), packet_type, payload, out);
-    hns_rows::put_row(answer, hns_rows::of_encoded(encoded));
+    hns_rows::put_row(answer, hns_rows::of_count(encoded));
 }
 
 // A push into a stream whose held bytes are the store's first. A refused one answers the held count after the refusal's values.

@@ -1,4 +1,5 @@
 //! libhns_ffi_frames.a for callers in C and Rust: each function of hns_ffi_frames, exported with the contract that it has there.
+//! A static library exports its own functions alone, so each stands here once more.
 #![tactic(auto)]
 
 ghost use Rattle.std.specs.Prelude.{◌≡◌};
@@ -6,7 +7,7 @@ ghost use Rattle.hns_p2p_frame.specs.Frame.{front, decode_exact, write_frame};
 ghost use Rattle.hns_p2p_frame.specs.Push as Push;
 ghost use Rattle.hns_p2p_frame.specs.Answers.{prefix_of, exact_of};
 ghost use Rattle.hns_p2p_tally.specs.Tallying.{push_tallying};
-ghost use Rattle.hns_rows.specs.Rows.{answered, network_of, prefix_row, exact_row, encoded_row, pushed_row, delivered_row};
+ghost use Rattle.hns_rows.specs.Rows.{answered, network_of, prefix_row, exact_row, count_row, pushed_row, delivered_row};
 
 #[unsafe(no_mangle)]
 pub extern "C" fn hns_decode_frame_prefix(network: u8, input: &[u8], answer: &mut [u64])
@@ -30,7 +31,7 @@ pub extern "C" fn hns_encode_frame(
     out: &mut [u8],
     answer: &mut [u64],
 )
-    ensures answer_after { answer.new ≡ answered answer.old (encoded_row (write_frame (network_of network) (record { packet_type = packet_type; payload = payload.now }) out.old).answer) }
+    ensures answer_after { answer.new ≡ answered answer.old (count_row (write_frame (network_of network) (record { packet_type = packet_type; payload = payload.now }) out.old).answer) }
     ensures out_after { out.new ≡ (write_frame (network_of network) (record { packet_type = packet_type; payload = payload.now }) out.old).output }
 {
     hns_ffi_frames::hns_encode_frame(network, packet_type, payload, out, answer);

@@ -1,4 +1,5 @@
 //! libhns_ffi_packets.a for callers in C and Rust: each function of hns_ffi_packets, exported with the contract that it has there.
+//! A static library exports its own functions alone, so each stands here once more.
 #![tactic(auto)]
 
 ghost use Rattle.std.specs.Prelude.{◌≡◌};
@@ -11,7 +12,7 @@ ghost use Rattle.hns_p2p_indexes.specs.Indexes.{stored_under};
 ghost use Rattle.hns_p2p_item_numbers.specs.Numbers.{numbers_under};
 ghost use Rattle.hns_p2p_card.specs.Card.{card_row};
 ghost use Rattle.hns_p2p_wire.specs.Demand3.{rewriting_under};
-ghost use Rattle.hns_rows.specs.Rows.{answered, encoded_row, checked_row, granted_row};
+ghost use Rattle.hns_rows.specs.Rows.{answered, checked_row, count_row};
 ghost use Rattle.hns_packet_rows.specs.Rows.{packet_row, item_row, stored_row, card_numbers};
 ghost use Rattle.hns_ffi_packets.specs.Found.{FoundAnswered};
 
@@ -92,7 +93,7 @@ pub extern "C" fn hns_rewrite(
     out: &mut [u8],
     answer: &mut [u64],
 )
-    ensures answer_after { answer.new ≡ answered answer.old (encoded_row (rewriting_under (terms_of terms.now) packet_type payload.now out.old).answer) }
+    ensures answer_after { answer.new ≡ answered answer.old (count_row (rewriting_under (terms_of terms.now) packet_type payload.now out.old).answer) }
     ensures out_after { out.new ≡ (rewriting_under (terms_of terms.now) packet_type payload.now out.old).output }
 {
     hns_ffi_packets::hns_rewrite(terms, packet_type, payload, out, answer);
@@ -107,7 +108,7 @@ pub extern "C" fn hns_may_send(terms: &[u64], packet_type: u8, answer: &mut [u64
 
 #[unsafe(no_mangle)]
 pub extern "C" fn hns_types_granted(terms: &[u64], answer: &mut [u64])
-    ensures { answer.new ≡ answered answer.old (granted_row (types_granted (terms_of terms.now))) }
+    ensures { answer.new ≡ answered answer.old (count_row (types_granted (terms_of terms.now))) }
 {
     hns_ffi_packets::hns_types_granted(terms, answer);
 }

@@ -1,15 +1,16 @@
 //! libhns_ffi_writers.a for callers in C and Rust: each function of hns_ffi_writers, exported with the contract that it has there.
+//! A static library exports its own functions alone, so each stands here once more.
 #![tactic(auto)]
 
 ghost use Rattle.std.specs.Prelude.{◌≡◌};
 ghost use Rattle.hns_encoding.specs.Bytes.{raw_at};
-ghost use Rattle.hns_p2p_fields.specs.Fields.{version_fields_in};
 ghost use Rattle.hns_p2p_writer.specs.Writers.{gives_version, gives_empty, gives_nonce, gives_addr, gives_inventory, gives_locator, gives_headers, gives_reject, gives_fee_filter, gives_send_cmpct, gives_get_block_txn, gives_get_proof, gives_raw};
-ghost use Rattle.hns_rows.specs.Rows.{answered, encoded_row};
+ghost use Rattle.hns_rows.specs.Rows.{answered, count_row};
+ghost use Rattle.hns_ffi_writers.specs.Version.{version_from};
 
 #[unsafe(no_mangle)]
 pub extern "C" fn hns_write_empty(out: &mut [u8], answer: &mut [u64])
-    ensures answer_after { answer.new ≡ answered answer.old (encoded_row (gives_empty out.old).answer) }
+    ensures answer_after { answer.new ≡ answered answer.old (count_row (gives_empty out.old).answer) }
     ensures out_after { out.new ≡ (gives_empty out.old).output }
 {
     hns_ffi_writers::hns_write_empty(out, answer);
@@ -17,7 +18,7 @@ pub extern "C" fn hns_write_empty(out: &mut [u8], answer: &mut [u64])
 
 #[unsafe(no_mangle)]
 pub extern "C" fn hns_write_nonce(nonce: u64, out: &mut [u8], answer: &mut [u64])
-    ensures answer_after { answer.new ≡ answered answer.old (encoded_row (gives_nonce nonce out.old).answer) }
+    ensures answer_after { answer.new ≡ answered answer.old (count_row (gives_nonce nonce out.old).answer) }
     ensures out_after { out.new ≡ (gives_nonce nonce out.old).output }
 {
     hns_ffi_writers::hns_write_nonce(nonce, out, answer);
@@ -25,7 +26,7 @@ pub extern "C" fn hns_write_nonce(nonce: u64, out: &mut [u8], answer: &mut [u64]
 
 #[unsafe(no_mangle)]
 pub extern "C" fn hns_write_addr(items: &[u8], out: &mut [u8], answer: &mut [u64])
-    ensures answer_after { answer.new ≡ answered answer.old (encoded_row (gives_addr items.now out.old).answer) }
+    ensures answer_after { answer.new ≡ answered answer.old (count_row (gives_addr items.now out.old).answer) }
     ensures out_after { out.new ≡ (gives_addr items.now out.old).output }
 {
     hns_ffi_writers::hns_write_addr(items, out, answer);
@@ -33,7 +34,7 @@ pub extern "C" fn hns_write_addr(items: &[u8], out: &mut [u8], answer: &mut [u64
 
 #[unsafe(no_mangle)]
 pub extern "C" fn hns_write_inventory(items: &[u8], out: &mut [u8], answer: &mut [u64])
-    ensures answer_after { answer.new ≡ answered answer.old (encoded_row (gives_inventory items.now out.old).answer) }
+    ensures answer_after { answer.new ≡ answered answer.old (count_row (gives_inventory items.now out.old).answer) }
     ensures out_after { out.new ≡ (gives_inventory items.now out.old).output }
 {
     hns_ffi_writers::hns_write_inventory(items, out, answer);
@@ -41,7 +42,7 @@ pub extern "C" fn hns_write_inventory(items: &[u8], out: &mut [u8], answer: &mut
 
 #[unsafe(no_mangle)]
 pub extern "C" fn hns_write_locator(hashes: &[u8], stop: &[u8], out: &mut [u8], answer: &mut [u64])
-    ensures answer_after { answer.new ≡ answered answer.old (encoded_row (gives_locator hashes.now (raw_at 32 stop.now 0) out.old).answer) }
+    ensures answer_after { answer.new ≡ answered answer.old (count_row (gives_locator hashes.now (raw_at 32 stop.now 0) out.old).answer) }
     ensures out_after { out.new ≡ (gives_locator hashes.now (raw_at 32 stop.now 0) out.old).output }
 {
     hns_ffi_writers::hns_write_locator(hashes, stop, out, answer);
@@ -49,7 +50,7 @@ pub extern "C" fn hns_write_locator(hashes: &[u8], stop: &[u8], out: &mut [u8], 
 
 #[unsafe(no_mangle)]
 pub extern "C" fn hns_write_headers(items: &[u8], out: &mut [u8], answer: &mut [u64])
-    ensures answer_after { answer.new ≡ answered answer.old (encoded_row (gives_headers items.now out.old).answer) }
+    ensures answer_after { answer.new ≡ answered answer.old (count_row (gives_headers items.now out.old).answer) }
     ensures out_after { out.new ≡ (gives_headers items.now out.old).output }
 {
     hns_ffi_writers::hns_write_headers(items, out, answer);
@@ -65,7 +66,7 @@ pub extern "C" fn hns_write_reject(
     out: &mut [u8],
     answer: &mut [u64],
 )
-    ensures answer_after { answer.new ≡ answered answer.old (encoded_row (gives_reject message code reason.now present (raw_at 32 hash.now 0) out.old).answer) }
+    ensures answer_after { answer.new ≡ answered answer.old (count_row (gives_reject message code reason.now present (raw_at 32 hash.now 0) out.old).answer) }
     ensures out_after { out.new ≡ (gives_reject message code reason.now present (raw_at 32 hash.now 0) out.old).output }
 {
     hns_ffi_writers::hns_write_reject(message, code, reason, present, hash, out, answer);
@@ -73,7 +74,7 @@ pub extern "C" fn hns_write_reject(
 
 #[unsafe(no_mangle)]
 pub extern "C" fn hns_write_feefilter(rate: i64, out: &mut [u8], answer: &mut [u64])
-    ensures answer_after { answer.new ≡ answered answer.old (encoded_row (gives_fee_filter rate out.old).answer) }
+    ensures answer_after { answer.new ≡ answered answer.old (count_row (gives_fee_filter rate out.old).answer) }
     ensures out_after { out.new ≡ (gives_fee_filter rate out.old).output }
 {
     hns_ffi_writers::hns_write_feefilter(rate, out, answer);
@@ -81,7 +82,7 @@ pub extern "C" fn hns_write_feefilter(rate: i64, out: &mut [u8], answer: &mut [u
 
 #[unsafe(no_mangle)]
 pub extern "C" fn hns_write_sendcmpct(mode: u8, version: u64, out: &mut [u8], answer: &mut [u64])
-    ensures answer_after { answer.new ≡ answered answer.old (encoded_row (gives_send_cmpct mode version out.old).answer) }
+    ensures answer_after { answer.new ≡ answered answer.old (count_row (gives_send_cmpct mode version out.old).answer) }
     ensures out_after { out.new ≡ (gives_send_cmpct mode version out.old).output }
 {
     hns_ffi_writers::hns_write_sendcmpct(mode, version, out, answer);
@@ -94,7 +95,7 @@ pub extern "C" fn hns_write_getblocktxn(
     out: &mut [u8],
     answer: &mut [u64],
 )
-    ensures answer_after { answer.new ≡ answered answer.old (encoded_row (gives_get_block_txn (raw_at 32 hash.now 0) indexes.now out.old).answer) }
+    ensures answer_after { answer.new ≡ answered answer.old (count_row (gives_get_block_txn (raw_at 32 hash.now 0) indexes.now out.old).answer) }
     ensures out_after { out.new ≡ (gives_get_block_txn (raw_at 32 hash.now 0) indexes.now out.old).output }
 {
     hns_ffi_writers::hns_write_getblocktxn(hash, indexes, out, answer);
@@ -102,7 +103,7 @@ pub extern "C" fn hns_write_getblocktxn(
 
 #[unsafe(no_mangle)]
 pub extern "C" fn hns_write_getproof(root: &[u8], key: &[u8], out: &mut [u8], answer: &mut [u64])
-    ensures answer_after { answer.new ≡ answered answer.old (encoded_row (gives_get_proof (raw_at 32 root.now 0) (raw_at 32 key.now 0) out.old).answer) }
+    ensures answer_after { answer.new ≡ answered answer.old (count_row (gives_get_proof (raw_at 32 root.now 0) (raw_at 32 key.now 0) out.old).answer) }
     ensures out_after { out.new ≡ (gives_get_proof (raw_at 32 root.now 0) (raw_at 32 key.now 0) out.old).output }
 {
     hns_ffi_writers::hns_write_getproof(root, key, out, answer);
@@ -110,7 +111,7 @@ pub extern "C" fn hns_write_getproof(root: &[u8], key: &[u8], out: &mut [u8], an
 
 #[unsafe(no_mangle)]
 pub extern "C" fn hns_write_raw(payload: &[u8], out: &mut [u8], answer: &mut [u64])
-    ensures answer_after { answer.new ≡ answered answer.old (encoded_row (gives_raw payload.now out.old).answer) }
+    ensures answer_after { answer.new ≡ answered answer.old (count_row (gives_raw payload.now out.old).answer) }
     ensures out_after { out.new ≡ (gives_raw payload.now out.old).output }
 {
     hns_ffi_writers::hns_write_raw(payload, out, answer);
@@ -134,8 +135,8 @@ pub extern "C" fn hns_write_version(
     out: &mut [u8],
     answer: &mut [u64],
 )
-    ensures answer_after { answer.new ≡ answered answer.old (encoded_row (gives_version (version_fields_in key.now (record { version = version; services = services; time = time; remote = record { time = remote_time; services = remote_services; ip_first = ip_first; ip_last = ip_last; port = port; key = 0 }; nonce = nonce; agent = record { start = 0; length = 0 }; height = height; no_relay = no_relay })) agent.now out.old).answer) }
-    ensures out_after { out.new ≡ (gives_version (version_fields_in key.now (record { version = version; services = services; time = time; remote = record { time = remote_time; services = remote_services; ip_first = ip_first; ip_last = ip_last; port = port; key = 0 }; nonce = nonce; agent = record { start = 0; length = 0 }; height = height; no_relay = no_relay })) agent.now out.old).output }
+    ensures answer_after { answer.new ≡ answered answer.old (count_row (gives_version (version_from version services time remote_time remote_services ip_first ip_last port key.now nonce height no_relay) agent.now out.old).answer) }
+    ensures out_after { out.new ≡ (gives_version (version_from version services time remote_time remote_services ip_first ip_last port key.now nonce height no_relay) agent.now out.old).output }
 {
     hns_ffi_writers::hns_write_version(
         version,

@@ -1,71 +1,69 @@
-//! Answers about packets as rows of sixteen numbers, for callers in C and Rust.
+//! Answers about packets as rows of sixteen numbers, for callers in C and Rust. Rows are arrays of numbers, as the C interface has them.
+//! No From: it could not stand here, since both types are another crate's.
 #![tactic(auto)]
 
-ghost use Rattle.std.specs.Prelude.{◌≡◌, ◌∷◌, [], ◌≤◌, length};
-ghost use Rattle.std.proofs.Math.Seq.{paste};
+ghost use Rattle.std.specs.Prelude.{◌≡◌, ◌∷◌, [], ◌≤◌};
 ghost use Rattle.hns_p2p_types.specs.Packets.{address_numbers};
-ghost use Rattle.hns_rows.specs.Rows.{answered};
-ghost use Rattle.hns_packet_rows.specs.Rows.{filled, row, refused_row, items_row, span_row, bit, version_row, hash_numbers, packet_row, item_row, found_row, stored_row, card_numbers};
+ghost use Rattle.hns_packet_rows.specs.Rows.{filled, row, refused_row, items_row, span_row, version_row, hash_numbers, fields_row, packet_row, numbers_row, item_row, found_row, stored_row, card_numbers};
 
 use hns_p2p_card::Row;
 use hns_p2p_types::{
-    CompactBlockRequest, Found, Hash, Item, Items, LocatorPacket, NetAddress, Packet, RejectPacket,
-    Span, Stored, VersionPacket,
+    CompactBlockRequest, Item, Items, LocatorPacket, NetAddress, Packet, RejectPacket, Span,
+    VersionPacket,
 };
 use hns_refusals::Refusal;
 
-fn of_seven(a: u64, b: u64, c: u64, d: u64, e: u64, f: u64, g: u64) -> [u64; 16]
-    ensures { result ≡ filled (a ∷ b ∷ c ∷ d ∷ e ∷ f ∷ g ∷ []) }
+// Sixteen numbers of which these are the first.
+fn filled<const N: usize>(numbers: [u64; N]) -> [u64; 16]
+    requires { N ≤ 16 }
+    ensures { result ≡ filled numbers.entry }
 {
-    [a, b, c, d, e, f, g, 0, 0, 0, 0, 0, 0, 0, 0, 0]
+    let mut row = [0; 16];
+    row[..N].copy_from_slice(&numbers);
+    row
 }
 
 fn of_refusal(refusal: Refusal) -> [u64; 16]
     ensures { result ≡ refused_row refusal }
 {
-    of_seven(refusal.number, refusal.a, refusal.b, refusal.c, 0, 0, 0)
-}
-
-fn of_three(a: u64, b: u64, c: u64) -> [u64; 16]
-    ensures { result ≡ row (a ∷ b ∷ c ∷ []) }
-{
-    of_seven(0, a, b, c, 0, 0, 0)
+    let [a, b, c] = refusal.values();
+    filled([refusal.number(), a, b, c])
 }
 
 fn of_items(items: Items) -> [u64; 16]
     ensures { result ≡ items_row items }
 {
-    of_three(items.count as u64, items.first as u64, 0)
+    filled([0, items.count as u64, items.first as u64])
 }
 
 fn of_span(span: Span) -> [u64; 16]
     ensures { result ≡ span_row span }
 {
-    of_three(span.start as u64, span.length as u64, 0)
+    filled([0, span.start as u64, span.length as u64])
 }
 
-fn of_locator(locator: LocatorPacket) -> [u64; 16]
-    ensures { result ≡ row (locator.locator.count ∷ locator.locator.first ∷ locator.stop ∷ []) }
+fn of_locator(packet: LocatorPacket) -> [u64; 16]
+    ensures { result ≡ row (packet.locator.count ∷ packet.locator.first ∷ packet.stop ∷ []) }
 {
-    let items = locator.locator;
-    of_three(items.count as u64, items.first as u64, locator.stop as u64)
+    let items = packet.locator;
+    filled([
+        0,
+        items.count as u64,
+        items.first as u64,
+        packet.stop as u64,
+    ])
 }
 
 fn of_request(request: CompactBlockRequest) -> [u64; 16]
     ensures { result ≡ row (request.indexes.count ∷ request.indexes.first ∷ request.block_hash ∷ []) }
 {
     let items = request.indexes;
-    of_three(
+    filled([
+        0,
         items.count as u64,
         items.first as u64,
         request.block_hash as u64,
-    )
-}
-
-fn of_flag(set: bool) -> u64
-    ensures { result ≡ bit set }
-{
-    if set { 1 } else { 0 }
+    ])
 }
 
 fn of_version(version: VersionPacket) -> [u64; 16]
@@ -75,40 +73,31 @@ fn of_version(version: VersionPacket) -> [u64; 16]
     let agent = version.agent;
     [
         0,
-        version.version as u64,
+        u64::from(version.version),
         version.services,
         version.time,
         remote.time,
         remote.services,
         remote.ip_first,
         remote.ip_last,
-        remote.port as u64,
+        u64::from(remote.port),
         remote.key as u64,
         version.nonce,
         agent.start as u64,
         agent.length as u64,
-        version.height as u64,
-        of_flag(version.no_relay),
+        u64::from(version.height),
+        u64::from(version.no_relay),
         0,
     ]
 }
 
 // 1 and the place of a hash, or 0 twice.
-#[derive(Clone, Copy)]
-struct HashNumbers {
-    there: u64,
-    place: u64,
-}
-
-fn of_hash(hash: Hash) -> HashNumbers
-    ensures { result.there ∷ result.place ∷ [] ≡ hash_numbers hash }
+fn of_hash(hash: Option<usize>) -> [u64; 2]
+    ensures { result ≡ hash_numbers hash }
 {
     match hash {
-        Hash::At(place) => HashNumbers {
-            there: 1,
-            place: place as u64,
-        },
-        Hash::Absent => HashNumbers { there: 0, place: 0 },
+        Some(place) => [1, place as u64],
+        None => [0; 2],
     }
 }
 
@@ -116,133 +105,113 @@ fn of_reject(reject: RejectPacket) -> [u64; 16]
     ensures { result ≡ row (reject.message ∷ reject.code ∷ reject.reason.start ∷ reject.reason.length ∷ hash_numbers reject.hash) }
 {
     let reason = reject.reason;
-    let hash = reject.hash;
-    let hash = of_hash(hash);
-    let message = reject.message as u64;
-    let code = reject.code as u64;
-    of_seven(
+    let [there, place] = of_hash(reject.hash);
+    filled([
         0,
-        message,
-        code,
+        u64::from(reject.message),
+        u64::from(reject.code),
         reason.start as u64,
         reason.length as u64,
-        hash.there,
-        hash.place,
-    )
+        there,
+        place,
+    ])
 }
 
 // A row by the packet's numbers and places; all rows are as long as that of a version, the longest.
-pub fn of_packet(packet: Packet) -> [u64; 16]
-    ensures { result ≡ packet_row packet }
+fn of_fields(packet: Packet) -> [u64; 16]
+    ensures { result ≡ fields_row packet }
 {
     match packet {
-        Packet::Version(v) => of_version(v),
-        Packet::Verack => [0; 16],
-        Packet::Ping(nonce) => of_three(nonce, 0, 0),
-        Packet::Pong(nonce) => of_three(nonce, 0, 0),
-        Packet::GetAddr => [0; 16],
-        Packet::Addr(i) => of_items(i),
-        Packet::Inv(i) => of_items(i),
-        Packet::GetData(i) => of_items(i),
-        Packet::NotFound(i) => of_items(i),
-        Packet::GetBlocks(l) => of_locator(l),
-        Packet::GetHeaders(l) => of_locator(l),
-        Packet::Headers(i) => of_items(i),
-        Packet::SendHeaders => [0; 16],
-        Packet::Block(s) => of_span(s),
-        Packet::Tx(s) => of_span(s),
-        Packet::Reject(r) => of_reject(r),
-        Packet::Mempool => [0; 16],
-        Packet::FilterLoad(s) => of_span(s),
-        Packet::FilterAdd(s) => of_span(s),
-        Packet::FilterClear => [0; 16],
-        Packet::MerkleBlock(s) => of_span(s),
-        Packet::FeeFilter(rate) => of_three(hns_p2p_types::signed_bits(rate), 0, 0),
-        Packet::SendCmpct { mode, version } => of_three(mode as u64, version, 0),
-        Packet::CmpctBlock(s) => of_span(s),
-        Packet::GetBlockTxn(q) => of_request(q),
-        Packet::BlockTxn(s) => of_span(s),
-        Packet::GetProof(p) => of_three(p.root as u64, p.key as u64, 0),
-        Packet::Proof(s) => of_span(s),
-        Packet::Claim(s) => of_span(s),
-        Packet::Airdrop(s) => of_span(s),
-        Packet::Unknown { payload, .. } => of_span(payload),
-        Packet::Refused(refusal) => of_refusal(refusal),
+        Packet::Version(version) => of_version(version),
+        Packet::Ping(nonce) | Packet::Pong(nonce) => filled([0, nonce]),
+        Packet::Addr(items)
+        | Packet::Inv(items)
+        | Packet::GetData(items)
+        | Packet::NotFound(items)
+        | Packet::Headers(items) => of_items(items),
+        Packet::GetBlocks(locator) | Packet::GetHeaders(locator) => of_locator(locator),
+        Packet::Reject(reject) => of_reject(reject),
+        Packet::FeeFilter(rate) => filled([0, hns_p2p_types::signed_bits(rate)]),
+        Packet::SendCmpct { mode, version } => filled([0, u64::from(mode), version]),
+        Packet::GetBlockTxn(request) => of_request(request),
+        Packet::GetProof(proof) => filled([0, proof.root as u64, proof.key as u64]),
+        Packet::Block(bytes)
+        | Packet::Tx(bytes)
+        | Packet::FilterLoad(bytes)
+        | Packet::FilterAdd(bytes)
+        | Packet::MerkleBlock(bytes)
+        | Packet::CmpctBlock(bytes)
+        | Packet::BlockTxn(bytes)
+        | Packet::Proof(bytes)
+        | Packet::Claim(bytes)
+        | Packet::Airdrop(bytes)
+        | Packet::Unknown { payload: bytes, .. } => of_span(bytes),
+        Packet::Verack
+        | Packet::GetAddr
+        | Packet::SendHeaders
+        | Packet::Mempool
+        | Packet::FilterClear => [0; 16],
     }
+}
+
+pub fn of_packet(packet: Result<Packet, Refusal>) -> [u64; 16]
+    ensures { result ≡ packet_row packet }
+{
+    packet.map_or_else(of_refusal, of_fields)
 }
 
 fn of_address(address: NetAddress) -> [u64; 16]
     ensures { result ≡ row (address_numbers address) }
 {
-    let a = address;
-    of_seven(
+    filled([
         0,
-        a.time,
-        a.services,
-        a.ip_first,
-        a.ip_last,
-        a.port as u64,
-        a.key as u64,
-    )
+        address.time,
+        address.services,
+        address.ip_first,
+        address.ip_last,
+        u64::from(address.port),
+        address.key as u64,
+    ])
 }
 
-pub fn of_item(item: Item) -> [u64; 16]
-    ensures { result ≡ item_row item }
+fn of_numbers(item: Item) -> [u64; 16]
+    ensures { result ≡ numbers_row item }
 {
     match item {
         Item::Address(address) => of_address(address),
-        Item::Inventory { kind, hash } => of_three(kind as u64, hash as u64, 0),
-        Item::Hash(place) => of_three(place as u64, 0, 0),
-        Item::Header(place) => of_three(place as u64, 0, 0),
-        Item::Index(index) => of_three(index, 0, 0),
-        Item::Refused(refusal) => of_refusal(refusal),
+        Item::Inventory { kind, hash } => filled([0, u64::from(kind), hash as u64]),
+        Item::Hash(place) | Item::Header(place) => filled([0, place as u64]),
+        Item::Index(index) => filled([0, index]),
     }
 }
 
-pub fn of_found(found: Found) -> [u64; 16]
+pub fn of_item(item: Result<Item, Refusal>) -> [u64; 16]
+    ensures { result ≡ item_row item }
+{
+    item.map_or_else(of_refusal, of_numbers)
+}
+
+pub fn of_found(found: Result<Option<usize>, Refusal>) -> [u64; 16]
     ensures { result ≡ found_row found }
 {
     match found {
-        Found::At(place) => of_three(1, place as u64, 0),
-        Found::Nowhere => [0; 16],
-        Found::Refused(refusal) => of_refusal(refusal),
+        Ok(Some(place)) => filled([0, 1, place as u64]),
+        Ok(None) => [0; 16],
+        Err(refusal) => of_refusal(refusal),
     }
 }
 
-pub fn of_stored(stored: Stored) -> [u64; 16]
+pub fn of_stored(stored: Result<usize, Refusal>) -> [u64; 16]
     ensures { result ≡ stored_row stored }
 {
     match stored {
-        Stored::Count(count) => of_three(count as u64, 0, 0),
-        Stored::Refused(refusal) => of_refusal(refusal),
+        Ok(count) => filled([0, count as u64]),
+        Err(refusal) => of_refusal(refusal),
     }
 }
 
 pub fn of_card(card: Row) -> [u64; 16]
     ensures { result ≡ card_numbers card }
 {
-    of_three(card.least as u64, card.greatest as u64, 0)
-}
-
-fn copy(answer: &mut [u64], values: [u64; 16], n: usize)
-    requires { (n ≤ 16) × (n ≤ length answer.old) }
-    ensures { answer.new ≡ paste answer.old 0 values n }
-{
-    let mut i = 0;
-    while i < n {
-        answer[i] = values[i];
-        i += 1;
-    }
-}
-
-// A row into the caller's numbers: as many as fit.
-pub fn put_row(answer: &mut [u64], values: [u64; 16])
-    ensures { answer.new ≡ answered answer.old values }
-{
-    let room = answer.len();
-    if 16 <= room {
-        copy(answer, values, 16);
-    } else {
-        copy(answer, values, room);
-    }
+    filled([0, card.least as u64, card.greatest as u64])
 }
