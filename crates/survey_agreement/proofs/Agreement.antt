@@ -8,6 +8,7 @@ use lib.Seq.{length-take-le}
 use lib.Dec.{eqb, T, eqb→eq}
 use borrow.Author.Tests.{eqb-true, eqb-false}
 use Rattle.hns_refusals.specs.declared.Refusal.{Refusal}
+use Rattle.hns_refusals.specs.Refusals.{number}
 use Rattle.hns_encoding.specs.Bytes.{Bytes, none}
 use Rattle.hns_encoding.specs.Format.{All}
 use Rattle.hns_encoding.specs.Put.{splice}
@@ -107,11 +108,11 @@ goes_on fs {log = log} {rest} {z} {v} shown some p e w a =
 -- a refusal's number has at most twenty digits
 abbrev Numbered : Pushed → Type 0
 Numbered (Accepted frames bytes h) = Unit {0}
-Numbered (Refused r h) = r.number < 10 ^ 20
+Numbered (Refused r h) = number r < 10 ^ 20
 
-header_numbered : (r : Refusal) → T (for_header r) → r.number < 10 ^ 20
+header_numbered : (r : Refusal) → T (for_header r) → number r < 10 ^ 20
 unfolding for_header
-header_numbered r = choose_holds (λ b. T b → r.number < 10 ^ 20) (eqb r.number 4) (λ e t. omega (arith, eqb-true r.number 4 e)) (λ e t. omega (arith, eqb→eq r.number 5 t))
+header_numbered r = choose_holds (λ b. T b → number r < 10 ^ 20) (eqb (number r) 4) (λ e t. omega (arith, eqb-true (number r) 4 e)) (λ e t. omega (arith, eqb→eq (number r) 5 t))
 
 settled_numbered : (w : Walked) → Ended Mainnet w → (s : List ℕ) (h : ℕ) (o : List ℕ) → Numbered (settled Mainnet w s h o).answer
 unfolding settled
@@ -129,7 +130,7 @@ push_numbered s h x o = go (tested Mainnet s h x o)
     go (fits a b c d) = settled_numbered (walk Mainnet (take h s ++ x)) (walk_ended Mainnet (take h s ++ x)) (splice s h x) (h + length x) o
 
 -- the push of a chunk is refused
-stops : (s : List ℕ) (h : ℕ) (o log : List ℕ) (r : Refusal) (k : ℕ) → (push Mainnet s h (take chunk_size log) o).answer ≡ Refused r k → Sound (take h s ++ log) (record { store = s; count = h; output = o; log = log }) (record { frames = []; last = stop r.number })
+stops : (s : List ℕ) (h : ℕ) (o log : List ℕ) (r : Refusal) (k : ℕ) → (push Mainnet s h (take chunk_size log) o).answer ≡ Refused r k → Sound (take h s ++ log) (record { store = s; count = h; output = o; log = log }) (record { frames = []; last = stop (number r) })
 unfolding encodings
 stops s h o log r k e =
     record {

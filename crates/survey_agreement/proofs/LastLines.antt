@@ -7,6 +7,7 @@ use native.Mathlib.Omega.{arith}
 use lib.ListN.{length, take, drop, length-take}
 use lib.Dec.{leb, eqb}
 use Rattle.hns_refusals.specs.declared.Refusal.{Refusal}
+use Rattle.hns_refusals.specs.Refusals.{number}
 use Rattle.hns_encoding.specs.Bytes.{Bytes, none}
 use Rattle.hns_encoding.proofs.Numbers.{bytes_drop, bytes_take}
 use Rattle.hns_encoding.proofs.Outcomes.{choose_holds}
@@ -25,17 +26,17 @@ use Rattle.survey_agreement.proofs.Sizes.{push_output}
 never : {n r : ℕ} → held n ≡ stop r → ⊥
 never e = let z : ◌≡◌ {A = ℕ} 0 1 = cc e in omega arith
 
-number : {n r : ℕ} → stop n ≡ stop r → n ≡ r
-number e = cc
+stop_one : {n r : ℕ} → stop n ≡ stop r → n ≡ r
+stop_one e = cc
 
 -- a survey that ends in `held h`
 held_line : (h : ℕ) → h ≤ room_size → {fs : List Frame} → LastLine (record { frames = fs; last = held h })
 held_line h k = record { stops = λ r q. absurd (never q); holds = λ n q. let same : h ≡ n = cc q in omega arith }
 
 stop_line : (r : ℕ) → (r ≡ 4) ⊎ (r ≡ 5) ⊎ (r ≡ 17) → {fs : List Frame} → LastLine (record { frames = fs; last = stop r })
-stop_line r k = record { stops = λ n q. rw (number q) at k; holds = λ n q. absurd (never (sym q)) }
+stop_line r k = record { stops = λ n q. rw (stop_one q) at k; holds = λ n q. absurd (never (sym q)) }
 
-header_line : {xs : List ℕ} {r : Refusal} → FrontIs Mainnet xs (bad r) → {fs : List Frame} → LastLine (record { frames = fs; last = stop r.number })
+header_line : {xs : List ℕ} {r : Refusal} → FrontIs Mainnet xs (bad r) → {fs : List Frame} → LastLine (record { frames = fs; last = stop (number r) })
 header_line (wrong a b) = stop_line 4 (inl refl)
 header_line (long a b c) = stop_line 5 (inr (inl refl))
 

@@ -10,6 +10,7 @@ use Rattle.hns_encoding.specs.Put.{splice}
 use Rattle.hns_encoding.proofs.Outcomes.{choose_holds, choose_leb}
 use Rattle.hns_encoding.proofs.Puts.{length_splice}
 use Rattle.hns_p2p_frame.specs.declared.NetworkMagic.TheVariants.{Mainnet}
+use Rattle.hns_refusals.specs.Refusals.{number}
 use Rattle.hns_p2p_frame.specs.declared.Pushed.{Pushed}
 use Rattle.hns_p2p_frame.specs.declared.Pushed.TheVariants.{Accepted, Refused}
 use Rattle.hns_p2p_frame.specs.Frame.{Frame, encodings}
@@ -83,7 +84,7 @@ delivered_fits b o = omega (arith, lines_fit (take b o), length-take b o)
 
 added_fits : (n : ℕ) (a : Pushed) (o : List ℕ) → length (added_text (added_by n a o)) ≤ 2 * length o + 26
 unfolding added_by added_text lines
-added_fits n (Refused r h) o = omega (arith, last_fits (stop r.number))
+added_fits n (Refused r h) o = omega (arith, last_fits (stop (number r)))
 added_fits n (Accepted f b h) o =
     choose_holds (λ (d : Added). length (added_text d) ≤ 2 * length o + 26) (leb chunk_size n)
     (λ e. omega (arith, delivered_fits b o))

@@ -10,7 +10,7 @@ use Rattle.hns_encoding.proofs.Outcomes.{choose_leb}
 use Rattle.hns_encoding.proofs.Puts.{length_splice}
 use Rattle.hns_p2p_frame.proofs.Slices.{take_held}
 use Rattle.survey_export.specs.Survey.{chunk_size, room_size, text_size, kept_text, lines, last_text, Added, goes_on, ends, added_text, chunk, Survey, text, survey_by, survey_from, survey, Taken, goes_on_at, step_by, take_chunk}
-use Rattle.survey_export.specs.Program.{written_by, written_from, written}
+use Rattle.survey_export.specs.Program.{then_by, written_by, written_from, written}
 use Rattle.survey_export.specs.declared.Step.{Step}
 use Rattle.survey_agreement.specs.Agreement.{WritesTheSurvey}
 use Rattle.survey_agreement.proofs.Sizes.{lines_append, chunk_sized, Full, chunk_full}
@@ -24,7 +24,7 @@ module _ (t : List ℕ) (p : ℕ) (z : Taken) (go : ℕ → ℕ → List ℕ) (r
   step : (d : Added) → p + length (added_text d) ≤ length t → length t ≡ text_size → Full n d → z.text ≡ splice t p (added_text d)
       → ((h q : ℕ) → chunk_size ≤ n → q ≤ kept_text → go h q ≡ take q z.text ++ text (rest h))
       → written_by (step_by d (advance p (length (added_text d)))) z go ≡ take p t ++ text (survey_by d rest)
-  unfolding step_by goes_on_at added_text survey_by text written_by
+  unfolding step_by goes_on_at added_text survey_by text written_by then_by
   step (ends fs l) room size f e next =
       rw (place p (length (lines fs ++ last_text l)) (omega arith), e) (take_held t p (lines fs ++ last_text l) room)
   step (goes_on fs h) room size f e next =

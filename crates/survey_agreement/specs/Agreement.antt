@@ -1,6 +1,7 @@
 -- What an exported survey says of its log, what its text determines, and that the steps of the survey program write it. Each theorem is stated here under a name, with where it is proved.
 use Rattle.std.specs.Prelude.{ℕ, ◌≤◌, ◌<◌, ◌≡◌, List, ◌++◌, ◌⊎◌, length, take, drop}
 use Rattle.hns_refusals.specs.declared.Refusal.{Refusal}
+use Rattle.hns_refusals.specs.Refusals as Refusals
 use Rattle.hns_encoding.specs.Bytes.{Bytes}
 use Rattle.hns_encoding.specs.Format.{All}
 use Rattle.hns_p2p_frame.specs.declared.NetworkMagic.TheVariants.{Mainnet}
@@ -46,7 +47,7 @@ pub record StoppedBy (z : State) (r : ℕ) (rest : List ℕ) : Type 0 where
   pub there : rest ≡ take last.count last.store ++ last.log
   pub refusal : Refusal
   pub refused : (h : ℕ) × ((pushed last).answer ≡ Refused refusal h)
-  pub number : refusal.number ≡ r
+  pub number : Refusals.number refusal ≡ r
 
 -- what a survey that began in a state z says of the log, which is what was held in z and then what was left to read
 pub record Agrees (log : List ℕ) (z : State) (v : Survey) : Type 0 where

@@ -1,15 +1,13 @@
 -- How the loops over digits meet the definitions. Assumes nothing.
-use Prim.Native.Nat.{ℕ, zero, suc, ◌+◌, ◌*◌, ◌/◌, ◌%◌, ◌^◌, ◌≤◌, ◌<◌}
-use mathlib.Core.Path.{◌≡◌, refl, sym, ◌∙◌}
-use mathlib.Core.List.{List, [], ◌∷◌, ◌++◌, append_assoc}
-use native.Mathlib.Omega.{arith}
+use Rattle.std.proofs.Common.{◌≡◌, ℕ, zero, suc, ◌+◌, ◌*◌, ◌/◌, ◌%◌, ◌^◌, ◌≤◌, ◌<◌, List, [], ◌∷◌, ◌++◌, length, take, get_or, refl, sym, ◌∙◌, arith, add-one}
+use Rattle.std.specs.Prelude.{slice_set}
+use mathlib.Core.List.{append_assoc}
 use native.Mathlib.Nat.{pow-suc}
-use native.Mathlib.Numerals.{add-one}
-use lib.ListN.{length, take, drop, get_or, set, length-set}
+use lib.ListN.{drop, set, length-set}
 use lib.Seq.{take-suc, drop-cons, get_or-set_same, drop-set-lt}
 use borrow.Author.Tests.{le-ltb, lt-ltb}
 use Rattle.hns_encoding.specs.Put.{Put, advance}
-use Rattle.hns_encoding.proofs.Puts.{then, put_length, splice_byte}
+use Rattle.hns_encoding.proofs.Puts.{then, put_none, splice_cons, splice_byte}
 use Rattle.survey_digits.specs.Digits.{digit, hex, decimal_up_to, decimal}
 
 -- ---- the formula
@@ -22,33 +20,35 @@ pub digit_high : (d : ℕ) → 10 ≤ d → digit d ≡ 87 + d
 unfolding digit
 digit_high d h = rw (le-ltb _ _ h)
 
--- ---- a turn of the loop over bytes
+-- ---- a turn of the loops over bytes
 
 hex_append : (x y : List ℕ) → hex (x ++ y) ≡ hex x ++ hex y
 unfolding hex
 hex_append [] y = refl
 hex_append (b ∷ x) y = rw (hex_append x y)
 
--- a store is a put of one byte
-put_set : (o : List ℕ) (p b : ℕ) → p + 1 < 2 ^ 64 → Put o p (b ∷ []) (set o p b) (p + 1)
-unfolding advance
-put_set o p b h = record { next = omega arith; bytes = sym (splice_byte o p b) }
-
-pub hex_turn : {o : List ℕ} {p : ℕ} {o₁ : List ℕ} {p₁ : ℕ} {o₂ : List ℕ} {p₂ : ℕ} {o₃ : List ℕ} {p₃ : ℕ} (s : List ℕ) (i : ℕ) {a b : ℕ} → length o < 2 ^ 64 → i < length s
-    → a ≡ digit (get_or s i 0 / 16) → b ≡ digit (get_or s i 0 % 16)
-    → Put o p (hex (take i s)) o₁ p₁ → Put o₁ p₁ (a ∷ []) o₂ p₂ → Put o₂ p₂ (b ∷ []) o₃ p₃ → Put o p (hex (take (i + 1) s)) o₃ p₃
+pub hex_start : (o : List ℕ) (p q : ℕ) → q ≡ p → p < 2 ^ 64 → Put o p (hex []) o q
 unfolding hex
-hex_turn s i h l high low first second third =
-    rw (add-one, take-suc s i 0 l, hex_append, ← high, ← low) (then h first (then (rw (put_length first) h) second third))
+hex_start o p q e h = rw e (put_none o p h)
+
+-- the digits of one byte more by a put
+pub hex_turn : {o : List ℕ} {p : ℕ} {o₁ : List ℕ} {p₁ : ℕ} {o₂ : List ℕ} {p₂ : ℕ} (s : List ℕ) (i : ℕ) {a b : ℕ} → length o < 2 ^ 64 → i < length s
+    → a ≡ digit (get_or s i 0 / 16) → b ≡ digit (get_or s i 0 % 16)
+    → Put o p (hex (take i s)) o₁ p₁ → Put o₁ p₁ (a ∷ b ∷ []) o₂ p₂ → Put o p (hex (take (i + 1) s)) o₂ p₂
+unfolding hex
+hex_turn s i h l high low so_far put = rw (add-one, take-suc s i 0 l, hex_append, ← high, ← low) (then h so_far put)
 
 -- the same by two stores
+put_two : (o : List ℕ) (p a b : ℕ) → p + 2 < 2 ^ 64 → Put o p (a ∷ b ∷ []) (slice_set (slice_set o p a) (p + 1) b) (p + 2)
+unfolding advance
+put_two o p a b h = record { next = omega arith; bytes = sym (splice_cons o p a (b ∷ []) ∙ splice_byte (slice_set o p a) (p + 1) b) }
+
 pub set_turn : {o o₁ : List ℕ} (s : List ℕ) (p i : ℕ) {a b : ℕ} → length o < 2 ^ 64 → i < length s → p + 2 * (i + 1) < 2 ^ 64
     → a ≡ digit (get_or s i 0 / 16) → b ≡ digit (get_or s i 0 % 16)
-    → Put o p (hex (take i s)) o₁ (p + 2 * i) → Put o p (hex (take (i + 1) s)) (set (set o₁ (p + 2 * i) a) (p + 2 * i + 1) b) (p + 2 * (i + 1))
-set_turn {o₁ = o₁} s p i {a} h l room high low so_far =
-    let next : p + 2 * i + 1 + 1 ≡ p + 2 * (i + 1) = omega arith in
-    let at₁ = p + 2 * i in
-    rw next at (hex_turn s i h l high low so_far (put_set o₁ at₁ a (omega arith)) (put_set (set o₁ at₁ a) (at₁ + 1) _ (omega arith)))
+    → Put o p (hex (take i s)) o₁ (p + 2 * i) → Put o p (hex (take (i + 1) s)) (slice_set (slice_set o₁ (p + 2 * i) a) (p + 2 * i + 1) b) (p + 2 * (i + 1))
+set_turn {o₁ = o₁} s p i {a} {b} h l room high low so_far =
+    let next : p + 2 * i + 2 ≡ p + 2 * (i + 1) = omega arith in
+    rw next at (hex_turn s i h l high low so_far (put_two o₁ (p + 2 * i) a b (omega arith)))
 
 -- ---- turns of the loop over decimal digits
 

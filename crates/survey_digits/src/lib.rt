@@ -8,14 +8,15 @@ ghost use Rattle.survey_digits.specs.Digits.{digit, hex, decimal};
 
 use hns_encoder::Encoder;
 
-// The digit of a value: a value below ten is added to 48, any other to 87. What 87 has more is chosen and not jumped to: a
-// run of digits is then compared, masked and added many at a time, with no branch and no load.
+// The digit of a value. What a letter has more is chosen and not jumped to: a run of digits is then compared, masked and
+// added many at a time, with no branch and no load. A table, as in the library's hex, takes twice as long (docs/SPEED.md).
+#[tactic(auto, using(crate::proofs::Digits::digit_low, crate::proofs::Digits::digit_high))]
 fn digit_of(value: u8) -> u8
     requires { value < 16 }
     ensures { result ≡ digit value }
 {
-    let more = if value < 10 { 0 } else { 87 - 48 };
-    48 + value + more
+    let more = if value < 10 { 0 } else { b'a' - 10 - b'0' };
+    b'0' + value + more
 }
 
 // Bytes as digits if they fit: plain stores.
@@ -24,33 +25,22 @@ fn set_hex(encoder: Encoder, out: &mut [u8], bytes: &[u8]) -> Encoder
     ensures { Put out.old encoder.position (hex bytes.now) out.new result.position }
 {
     let at = encoder.position;
-    let mut i = 0;
-    while i < bytes.len() {
-        let b = bytes[i];
-        let high = digit_of(b / 16);
-        let low = digit_of(b % 16);
-        let to = at + 2 * i;
-        out[to] = high;
-        out[to + 1] = low;
-        i += 1;
+    for (i, byte) in bytes.iter().enumerate() {
+        out[at + 2 * i] = digit_of(*byte / 16);
+        out[at + 2 * i + 1] = digit_of(*byte % 16);
     }
-    let end = at + 2 * bytes.len();
-    Encoder { position: end }
+    Encoder {
+        position: at + 2 * bytes.len(),
+    }
 }
 
-// Near the text's end, where some may not fit: each digit by a put.
+// Near the text's end, where some may not fit: the digits of each byte by a put.
 fn put_hex_cut(encoder: Encoder, out: &mut [u8], bytes: &[u8]) -> Encoder
     ensures { Put out.old encoder.position (hex bytes.now) out.new result.position }
 {
     let mut e = encoder;
-    let mut i = 0;
-    while i < bytes.len() {
-        let b = bytes[i];
-        let high = digit_of(b / 16);
-        let low = digit_of(b % 16);
-        e = e.put_u8(out, high);
-        e = e.put_u8(out, low);
-        i += 1;
+    for byte in bytes {
+        e = e.put_array(out, [digit_of(*byte / 16), digit_of(*byte % 16)]);
     }
     e
 }
@@ -65,7 +55,8 @@ pub fn put_hex(encoder: Encoder, out: &mut [u8], bytes: &[u8]) -> Encoder
     set_hex(encoder, out, bytes)
 }
 
-// A number in decimal.
+// A number in decimal, its digits by the same formula (the library's have a table). They come lowest first and to an unknown
+// place, so the place is counted down by hand.
 pub fn put_decimal(encoder: Encoder, out: &mut [u8], n: u64) -> Encoder
     ensures { Put out.old encoder.position (decimal n) out.new result.position }
 {

@@ -5,37 +5,38 @@ use mathlib.Core.List.{List, []}
 use native.Mathlib.Omega.{arith}
 use lib.ListN.{length, take}
 use borrow.Author.Tests.{le-leb, lt-leb, eq-eqb, ne_eqb}
+use Rattle.std.specs.Prelude.{Result, Ok, Err}
 use Rattle.hns_refusals.specs.declared.Refusal.{Refusal}
-use Rattle.hns_encoding.specs.Put.{Put}
+use Rattle.hns_refusals.specs.Refusals.{number}
+use Rattle.hns_encoding.specs.Put.{Put, advance}
 use Rattle.hns_encoding.proofs.Puts.{then}
 use Rattle.hns_p2p_frame.specs.declared.NetworkMagic.TheVariants.{Mainnet}
 use Rattle.hns_p2p_frame.specs.declared.Pushed.{Pushed}
 use Rattle.hns_p2p_frame.specs.declared.Pushed.TheVariants.{Accepted, Refused}
 use Rattle.hns_p2p_frame.specs.Walk.{cut}
 use Rattle.hns_p2p_frame.specs.Push.{push}
-use Rattle.survey_export.specs.declared.Placed.{Placed}
-use Rattle.survey_export.specs.declared.Placed.TheVariants as P
+use Rattle.survey_export.specs.declared.Kept.{Kept}
 use Rattle.survey_export.specs.declared.Step.{Step}
-use Rattle.survey_export.specs.declared.Step.TheVariants as S
 use Rattle.survey_export.specs.Text.{stop_line}
-use Rattle.survey_export.specs.Survey.{lines, delivered, held, ends, last_text, added_text, added_by, Chunk, chunk, chunk_size, goes_on_at, step_by, take_chunk}
+use Rattle.survey_export.specs.Survey.{lines, delivered, held, ends, last_text, added_text, added_by, Chunk, chunk, chunk_size, over, goes_on_at, step_by, take_chunk}
 use Rattle.survey_export.specs.Helpers.{push_text, placed_by, PushesChunk, Finishes}
 
 module _ (s : List ℕ) (h : ℕ) (x o t : List ℕ) (q : ℕ) where
   -- r is what the push answered, and s' and o' are what it left
   module _ {r : Pushed} {s' o' : List ℕ} (a : r ≡ (push Mainnet s h x o).answer) (b : s' ≡ (push Mainnet s h x o).store) (c : o' ≡ (push Mainnet s h x o).output) where
-    pub accepted : {n k g : ℕ} → r ≡ Accepted n k g → {y : List ℕ} → y ≡ take k o' → {t' : List ℕ} {q' : ℕ} → Put t q (lines (cut Mainnet y).frames) t' q' → PushesChunk s h x o t q (P.Lines g q') s' o' t'
+    pub accepted : {n k g : ℕ} → r ≡ Accepted n k g → {y : List ℕ} → y ≡ take k o' → {t' : List ℕ} {q' : ℕ} → Put t q (lines (cut Mainnet y).frames) t' q' → PushesChunk s h x o t q (Ok (record { held = g; position = q' })) s' o' t'
     unfolding push_text placed_by
     accepted {n} {k} {g} e {y} f put =
         let is : (push Mainnet s h x o).answer ≡ Accepted n k g = sym a ∙ e in
         let front : y ≡ take k (push Mainnet s h x o).output = f ∙ ap (take k) c in
         record { answer = rw (is, put.next, front); store = b; output = c; text = rw is (rw front at put.bytes) }
 
-    pub refused : {v : Refusal} {g : ℕ} → r ≡ Refused v g → {t' : List ℕ} {q' : ℕ} → Put t q (stop_line v.number) t' q' → PushesChunk s h x o t q (P.Stop q') s' o' t'
+    pub refused : {v : Refusal} {g n : ℕ} → r ≡ Refused v g → n ≡ number v → {t' : List ℕ} {q' : ℕ} → Put t q (stop_line n) t' q' → PushesChunk s h x o t q (Err q') s' o' t'
     unfolding push_text placed_by
-    refused {v} {g} e put =
+    refused {v} {g} e m put =
         let is : (push Mainnet s h x o).answer ≡ Refused v g = sym a ∙ e in
-        record { answer = rw (is, put.next); store = b; output = c; text = rw is put.bytes }
+        let place : Put t q (stop_line (number v)) _ _ = rw m at put in
+        record { answer = rw (is, place.next); store = b; output = c; text = rw is place.bytes }
 
   -- ---- a step
 
@@ -49,51 +50,53 @@ module _ (s : List ℕ) (h : ℕ) (x o t : List ℕ) (q : ℕ) where
   unfolding take_chunk
   met c is e put f = rw (is, e) (f ∙ ap (step_by c.added) put.next, (refl, (refl, put.bytes)))
 
-  pub over : length x ≡ 0 → {r : Step} {t' : List ℕ} → Finishes t h q r t' → Met r s o t'
+  pub log_over : length x ≡ 0 → {r : Step} {t' : List ℕ} → Finishes t h q r t' → Met r s o t'
   unfolding chunk added_text lines last_text step_by
-  over e f = met (record { added = ends [] (held h); store = s; output = o }) (rw (eq-eqb (length x) 0 e)) refl (record { next = refl; bytes = f.text }) f.answer
+  log_over e f = met (record { added = ends [] (held h); store = s; output = o }) (rw (eq-eqb (length x) 0 e)) refl (record { next = refl; bytes = f.text }) f.answer
 
   module _ (some : ¬ (length x ≡ 0)) where
     pushes : chunk s h x o ≡ record { added = added_by (length x) (push Mainnet s h x o).answer (push Mainnet s h x o).output; store = (push Mainnet s h x o).store; output = (push Mainnet s h x o).output }
     unfolding chunk
     pushes = rw (ne_eqb (length x) 0 some)
 
-    module _ {p : Placed} {s' o' t' : List ℕ} (c : PushesChunk s h x o t q p s' o' t') where
+    module _ {p : Result Kept ℕ} {s' o' t' : List ℕ} (c : PushesChunk s h x o t q p s' o' t') where
       -- where the push is answered by a
       by : {a : Pushed} → (push Mainnet s h x o).answer ≡ a → {y t'' : List ℕ} {q'' : ℕ} → added_text (added_by (length x) a (push Mainnet s h x o).output) ≡ y → Put t q y t'' q'' → {r : Step} → r ≡ step_by (added_by (length x) a (push Mainnet s h x o).output) q'' → Met r s' o' t''
       by e f put g = rw (c.store, c.output) (met _ (pushes ∙ rw e) f put g)
 
-      pub stopped : {q' : ℕ} → p ≡ P.Stop q' → Met (S.Last q') s' o' t'
+      pub stopped : {q' : ℕ} → p ≡ Err q' → Met (over q') s' o' t'
       unfolding added_by added_text lines last_text step_by push_text placed_by
       stopped {q'} e = go (push Mainnet s h x o).answer refl
         where
-          go : (a : Pushed) → (push Mainnet s h x o).answer ≡ a → Met (S.Last q') s' o' t'
+          go : (a : Pushed) → (push Mainnet s h x o).answer ≡ a → Met (over q') s' o' t'
           go (Refused v g) i = by i refl (record { next = cc (c.answer, i); bytes = rw i at c.text }) refl
           go (Accepted n b g) i = let z : ◌≡◌ {A = ℕ} 0 1 = cc (c.answer, i) in absurd (let w : ⊥ = omega arith in w)
 
       -- what lines were put, and the answer that they were put for
-      pub record Lined (g q' : ℕ) : Type 0 where
+      pub record Lined (k : Kept) : Type 0 where
         pub n : ℕ
         pub b : ℕ
-        pub is : (push Mainnet s h x o).answer ≡ Accepted n b g
-        pub put : Put t q (lines (delivered b (push Mainnet s h x o).output)) t' q'
+        pub is : (push Mainnet s h x o).answer ≡ Accepted n b k.held
+        pub put : Put t q (lines (delivered b (push Mainnet s h x o).output)) t' k.position
 
-      lined : {g q' : ℕ} → p ≡ P.Lines g q' → Lined g q'
+      lined : {k : Kept} → p ≡ Ok k → Lined k
       unfolding push_text placed_by
-      lined {g} {q'} e = go (push Mainnet s h x o).answer refl
+      lined {k} e = go (push Mainnet s h x o).answer refl
         where
-          go : (a : Pushed) → (push Mainnet s h x o).answer ≡ a → Lined g q'
-          go (Refused v k) i = let z : ◌≡◌ {A = ℕ} 0 1 = cc (c.answer, i) in absurd (let w : ⊥ = omega arith in w)
-          go (Accepted n b k) i = record { n = n; b = b; is = cc (c.answer, i); put = record { next = cc (c.answer, i); bytes = rw i at c.text } }
+          go : (a : Pushed) → (push Mainnet s h x o).answer ≡ a → Lined k
+          go (Refused v g) i = let z : Ok k ≡ placed_by (Refused v g) (advance q (length (push_text (Refused v g) (push Mainnet s h x o).output))) = sym e ∙ rw i at c.answer in cc
+          go (Accepted n b g) i =
+              let z : Ok k ≡ placed_by (Accepted n b g) (advance q (length (push_text (Accepted n b g) (push Mainnet s h x o).output))) = sym e ∙ rw i at c.answer in
+              record { n = n; b = b; is = cc (z, i); put = record { next = cc z; bytes = rw i at c.text } }
 
-      pub ended : {g q' : ℕ} → p ≡ P.Lines g q' → length x < chunk_size → length t < 2 ^ 64 → {r : Step} {t'' : List ℕ} → Finishes t' g q' r t'' → Met r s' o' t''
+      pub ended : {k : Kept} → p ≡ Ok k → length x < chunk_size → length t < 2 ^ 64 → {r : Step} {t'' : List ℕ} → Finishes t' k.held k.position r t'' → Met r s' o' t''
       unfolding added_by added_text last_text step_by
-      ended e k room f =
+      ended e few room f =
           let l = lined e in
-          by l.is (rw (lt-leb chunk_size (length x) k)) (then room l.put (record { next = refl; bytes = f.text })) (rw (lt-leb chunk_size (length x) k) f.answer)
+          by l.is (rw (lt-leb chunk_size (length x) few)) (then room l.put (record { next = refl; bytes = f.text })) (rw (lt-leb chunk_size (length x) few) f.answer)
 
-      pub onwards : {g q' : ℕ} → p ≡ P.Lines g q' → chunk_size ≤ length x → {r : Step} → r ≡ goes_on_at g q' → Met r s' o' t'
+      pub onwards : {k : Kept} → p ≡ Ok k → chunk_size ≤ length x → {r : Step} → r ≡ goes_on_at k.held k.position → Met r s' o' t'
       unfolding added_by added_text step_by
-      onwards e k f =
+      onwards e full f =
           let l = lined e in
-          by l.is (rw (le-leb chunk_size (length x) k)) l.put (rw (le-leb chunk_size (length x) k) f)
+          by l.is (rw (le-leb chunk_size (length x) full)) l.put (rw (le-leb chunk_size (length x) full) f)

@@ -5,18 +5,19 @@ use mathlib.Core.List.{List, [], ◌∷◌, ◌++◌, append_assoc, append-nil}
 use native.Mathlib.Omega.{arith}
 use lib.ListN.{length, take, drop, length-drop}
 use lib.Seq.{drop-drop, take_all}
-use Rattle.hns_refusals.specs.declared.Refusal.{Refusal}
+use Rattle.std.specs.Prelude.{Option, Some, None}
+use Rattle.std.specs.Result.{result_unwrap_or}
+use Rattle.hns_refusals.specs.Refusals.{Answer}
 use Rattle.hns_encoding.specs.Put.{Put}
 use Rattle.hns_encoding.proofs.Puts.{then, put_none}
 use Rattle.hns_p2p_frame.specs.declared.NetworkMagic.TheVariants.{Mainnet}
 use Rattle.hns_p2p_frame.specs.declared.Prefix.{Prefix}
-use Rattle.hns_p2p_frame.specs.declared.Prefix.TheVariants as P
-use Rattle.hns_p2p_frame.specs.Frame.{Frame, front, payload_of}
+use Rattle.hns_p2p_frame.specs.Frame.{Frame, Front, not_yet, whole, bad, front, payload_of}
 use Rattle.hns_p2p_frame.specs.Walk.{cut}
-use Rattle.hns_p2p_frame.specs.Answers.{prefix_of}
+use Rattle.hns_p2p_frame.specs.Answers.{answered, prefix_of}
 use Rattle.hns_p2p_frame.proofs.Fronts.{front_rest}
 use Rattle.hns_p2p_frame.proofs.Walks.{cut_open, cut_bad, cut_frame}
-use Rattle.hns_p2p_frame.proofs.Answers.{Answered, front_not_yet, front_bad, front_whole}
+use Rattle.hns_p2p_frame.proofs.Answers.{Answered}
 use Rattle.survey_export.specs.Text.{line}
 use Rattle.survey_export.specs.Survey.{lines}
 
@@ -30,43 +31,51 @@ pub record PutTo (s o : List ℕ) (q : ℕ) (o' : List ℕ) (q' p : ℕ) : Type 
 pub put_start : (s o : List ℕ) (q : ℕ) → q < 2 ^ 64 → PutTo s o q o q 0
 put_start s o q h = record { inside = omega arith; done = []; put = put_none o q h; goes = refl }
 
--- a is what the front of the rest was answered to be
-module _ {s o : List ℕ} {q : ℕ} {o' : List ℕ} {q' p : ℕ} (w : PutTo s o q o' q' p) {a : Prefix} (e : a ≡ prefix_of (front Mainnet (take (length s - p) (drop p s)))) where
-  asked : a ≡ prefix_of (front Mainnet (drop p s))
-  asked = e ∙ rw (take_all (length s - p) (drop p s) (omega (arith, length-drop p s)))
+rest_is : (s : List ℕ) (p : ℕ) → take (length s - p) (drop p s) ≡ drop p s
+rest_is s p = take_all (length s - p) (drop p s) (omega (arith, length-drop p s))
 
-  ends : (cut Mainnet (drop p s)).frames ≡ [] → Put o q (lines (cut Mainnet s).frames) o' q'
-  unfolding lines
-  ends none = rw (← w.goes, none, append-nil) w.put
+-- a is the frame that the rest begins with, if it begins with one
+module _ {s o : List ℕ} {q : ℕ} {o' : List ℕ} {q' p : ℕ} (w : PutTo s o q o' q' p) {d : Answer (Option Prefix)} (asked : d ≡ prefix_of (front Mainnet (take (length s - p) (drop p s)))) {a : Option Prefix} (known : a ≡ result_unwrap_or d None) where
+  e : a ≡ result_unwrap_or (prefix_of (front Mainnet (drop p s))) None
+  e = known ∙ rw (asked, rest_is s p)
 
-  pub ends_not_yet : a ≡ P.NotYet → Put o q (lines (cut Mainnet s).frames) o' q'
-  ends_not_yet k = ends (rw (cut_open Mainnet (drop p s) (front_not_yet (front Mainnet (drop p s)) asked k)))
+  pub ends : a ≡ None → Put o q (lines (cut Mainnet s).frames) o' q'
+  unfolding lines prefix_of
+  ends k = rw (← w.goes, none (front Mainnet (drop p s)) refl, append-nil) w.put
+    where
+      none : (g : Front) → front Mainnet (drop p s) ≡ g → (cut Mainnet (drop p s)).frames ≡ []
+      none not_yet i = rw (cut_open Mainnet (drop p s) i)
+      none (bad r) i = rw (cut_bad Mainnet (drop p s) r i)
+      none (whole f rest) i = let z : ◌≡◌ {A = Option Prefix} (Some (answered f)) None = cc (k, rw i at e) in cc
 
-  pub ends_refused : {r : Refusal} → a ≡ P.Refused r → Put o q (lines (cut Mainnet s).frames) o' q'
-  ends_refused {r} k = ends (rw (cut_bad Mainnet (drop p s) r (front_bad (front Mainnet (drop p s)) asked k)))
+  module _ {f : Prefix} (h : a ≡ Some f) where
+    seen : Answered f (front Mainnet (drop p s))
+    unfolding prefix_of
+    seen = go (front Mainnet (drop p s)) refl
+      where
+        go : (g : Front) → front Mainnet (drop p s) ≡ g → Answered f (front Mainnet (drop p s))
+        go not_yet i = let z : ◌≡◌ {A = Option Prefix} (Some f) None = cc (h, rw i at e) in cc
+        go (bad r) i = let z : ◌≡◌ {A = Option Prefix} (Some f) None = cc (h, rw i at e) in cc
+        go (whole g rest) i = record { frame = g; rest = rest; is = i; by = cc (h, rw i at e) }
 
-  -- what the answer says of the frame
-  seen_frame : {k n t : ℕ} → a ≡ P.Frame k n t → Answered k n t (front Mainnet (drop p s))
-  seen_frame h = front_whole (front Mainnet (drop p s)) asked h
+    -- a frame has bytes
+    pub gains : 0 < f.taken
+    gains = omega (arith, ap (λ (k : Prefix). k.taken) seen.by)
 
-  -- a frame has bytes
-  pub gains : {k n t : ℕ} → a ≡ P.Frame k n t → 0 < t
-  gains h = omega (arith, (seen_frame h).took)
-
-  -- a frame's line more
-  pub goes_on : {k n t : ℕ} → a ≡ P.Frame k n t → length o < 2 ^ 64 → {x : List ℕ} → x ≡ payload_of (front Mainnet (take (length s - p) (drop p s))) → {o₂ : List ℕ} {q₂ : ℕ} → Put o' q' (line k x) o₂ q₂ → PutTo s o q o₂ q₂ (p + t)
-  unfolding lines payload_of
-  goes_on {k} {t = t} h room {x} part put =
-      let v = seen_frame h in
-      let f = v.frame in
-      let r = front_rest Mainnet (drop p s) f v.rest v.is in
-      let next : v.rest ≡ drop (p + t) s = r.0 ∙ rw (v.took, drop-drop) in
-      let turn : (cut Mainnet (drop p s)).frames ≡ f ∷ (cut Mainnet (drop (p + t) s)).frames = rw (cut_frame Mainnet (drop p s) f v.rest v.is, next) in
-      let payload : x ≡ f.payload = part ∙ rw (take_all (length s - p) (drop p s) (omega (arith, length-drop p s)), v.is) in
-      let same : line k x ≡ line f.packet_type f.payload = ap₂ line (sym v.packet_type) payload in
-      record {
-        inside = omega (arith, r.1, length-drop p s, w.inside, v.took);
-        done = w.done ++ line f.packet_type f.payload;
-        put = then room w.put (rw same at put);
-        goes = append_assoc w.done (line f.packet_type f.payload) (lines (cut Mainnet (drop (p + t) s)).frames) ∙ (sym (ap (λ (fs : List Frame). w.done ++ lines fs) turn) ∙ w.goes);
-      }
+    -- a frame's line more
+    pub goes_on : length o < 2 ^ 64 → {x : List ℕ} → x ≡ payload_of (front Mainnet (take (length s - p) (drop p s))) → {o₂ : List ℕ} {q₂ : ℕ} → Put o' q' (line f.packet_type x) o₂ q₂ → PutTo s o q o₂ q₂ (p + f.taken)
+    unfolding lines payload_of
+    goes_on room {x} part put =
+        let v = seen in
+        let g = v.frame in
+        let r = front_rest Mainnet (drop p s) g v.rest v.is in
+        let took : f.taken ≡ 9 + length g.payload = ap (λ (k : Prefix). k.taken) v.by in
+        let next : v.rest ≡ drop (p + f.taken) s = r.0 ∙ rw drop-drop (ap (λ (k : ℕ). drop (p + k) s) (sym took)) in
+        let turn : (cut Mainnet (drop p s)).frames ≡ g ∷ (cut Mainnet (drop (p + f.taken) s)).frames = rw (cut_frame Mainnet (drop p s) g v.rest v.is, next) in
+        let same : line f.packet_type x ≡ line g.packet_type g.payload = ap₂ line (ap (λ (k : Prefix). k.packet_type) v.by) (part ∙ rw (rest_is s p, v.is)) in
+        record {
+          inside = omega (arith, r.1, length-drop p s, w.inside, took);
+          done = w.done ++ line g.packet_type g.payload;
+          put = then room w.put (rw same at put);
+          goes = append_assoc w.done (line g.packet_type g.payload) (lines (cut Mainnet (drop (p + f.taken) s)).frames) ∙ (sym (ap (λ (fs : List Frame). w.done ++ lines fs) turn) ∙ w.goes);
+        }

@@ -1,8 +1,8 @@
 -- The survey program as a run of steps: what it keeps between them, and what they have it write.
-use Rattle.std.specs.Prelude.{ℕ, zero, suc, ◌≡◌, List, [], ◌++◌, length, take, drop}
+use Rattle.std.specs.Prelude.{ℕ, zero, suc, ◌≡◌, List, [], ◌++◌, length, take, drop, Option, Some, None}
+use Rattle.survey_export.specs.declared.Kept.{Kept}
 use Rattle.survey_export.specs.declared.Step.{Step}
-use Rattle.survey_export.specs.declared.Step.TheVariants as S
-use Rattle.survey_export.specs.Survey.{chunk_size, Taken, take_chunk}
+use Rattle.survey_export.specs.Survey.{chunk_size, go_on, Taken, take_chunk}
 
 -- ---- what is kept between steps
 
@@ -29,13 +29,17 @@ onto z x h at = record { store = (step_of z x).store; held = h; output = (step_o
 pub data Steps : Progress → List ℕ → List ℕ → List ℕ → Type 0 where
   stay : {z : Progress} → Steps z z.store z.output z.text
   end : {z : Progress} (x : List ℕ) → Steps z (step_of z x).store (step_of z x).output (step_of z x).text
-  next : {z : Progress} (x : List ℕ) {h at write : ℕ} {s o t : List ℕ} → (step_of z x).answer ≡ S.Next h at write → Steps (onto z x h at) s o t → Steps z s o t
+  next : {z : Progress} (x : List ℕ) {h at write : ℕ} {s o t : List ℕ} → (step_of z x).answer ≡ go_on h at write → Steps (onto z x h at) s o t → Steps z s o t
 
 -- ---- what the program writes of a log: chunk after chunk, the text's first bytes as each step says, up to the last
 
+-- what is written, and what follows where the survey goes on
+unfoldable pub then_by : List ℕ → Option Kept → (ℕ → ℕ → List ℕ) → List ℕ
+then_by first (Some k) go = first ++ go k.held k.position
+then_by first None go = first
+
 unfoldable pub written_by : Step → Taken → (ℕ → ℕ → List ℕ) → List ℕ
-written_by (S.Next h at write) z go = take write z.text ++ go h at
-written_by (S.Last write) z go = take write z.text
+written_by a z go = then_by (take a.write z.text) a.next go
 
 -- at most n steps, from a store s, a held count h, an output o, a text t and a place of it on
 unfoldable pub written_from : ℕ → List ℕ → ℕ → List ℕ → List ℕ → ℕ → List ℕ → List ℕ

@@ -1,5 +1,6 @@
 -- Document 01, 'The exported survey': the lines of a chunk of a mainnet peer log, the survey of a log, and a step of the survey program.
-use Rattle.std.specs.Prelude.{ℕ, zero, suc, ◌-◌, ◌*◌, List, [], ◌∷◌, ◌++◌, length, take, drop, leb, eqb}
+use Rattle.std.specs.Prelude.{ℕ, zero, suc, ◌-◌, ◌*◌, List, [], ◌∷◌, ◌++◌, length, take, drop, leb, eqb, Some, None}
+use Rattle.hns_refusals.specs.Refusals.{number}
 use Rattle.hns_encoding.specs.Bytes.{choose}
 use Rattle.hns_encoding.specs.Put.{splice, advance}
 use Rattle.hns_p2p_frame.specs.declared.NetworkMagic.TheVariants.{Mainnet}
@@ -9,7 +10,6 @@ use Rattle.hns_p2p_frame.specs.Frame.{Frame}
 use Rattle.hns_p2p_frame.specs.Walk.{cut}
 use Rattle.hns_p2p_frame.specs.Push.{push}
 use Rattle.survey_export.specs.declared.Step.{Step}
-use Rattle.survey_export.specs.declared.Step.TheVariants as S
 use Rattle.survey_export.specs.Text.{line, held_line, stop_line}
 
 -- a full chunk; the last of a log may be shorter
@@ -62,7 +62,7 @@ delivered bytes output = (cut Mainnet (take bytes output)).frames
 unfoldable pub added_by : ℕ → Pushed → List ℕ → Added
 added_by n (Accepted frames bytes h) o =
     choose (leb chunk_size n) (goes_on (delivered bytes o) h) (ends (delivered bytes o) (held h))
-added_by n (Refused r h) o = ends [] (stop r.number)
+added_by n (Refused r h) o = ends [] (stop (number r))
 
 -- what a chunk leaves
 pub record Chunk : Type 0 where
@@ -113,13 +113,21 @@ pub record Taken : Type 0 where
   pub output : List ℕ
   pub text : List ℕ
 
+-- the first bytes of the text are written out, and the survey goes on with a held count and a place
+abbrev pub go_on : ℕ → ℕ → ℕ → Step
+go_on h at write = record { write = write; next = Some (record { held = h; position = at }) }
+
+-- and it is over
+abbrev pub over : ℕ → Step
+over write = record { write = write; next = None }
+
 -- after lines up to a place: on from there, or from the text's front once it is written out
 unfoldable pub goes_on_at : ℕ → ℕ → Step
-goes_on_at h at = choose (leb at kept_text) (S.Next h at 0) (S.Next h 0 at)
+goes_on_at h at = choose (leb at kept_text) (go_on h at 0) (go_on h 0 at)
 
 unfoldable pub step_by : Added → ℕ → Step
 step_by (goes_on fs h) at = goes_on_at h at
-step_by (ends fs l) at = S.Last at
+step_by (ends fs l) at = over at
 
 unfoldable pub take_chunk : List ℕ → ℕ → List ℕ → List ℕ → List ℕ → ℕ → Taken
 take_chunk s h x o t at =

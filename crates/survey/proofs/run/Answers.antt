@@ -1,17 +1,16 @@
--- Each turn goes on with what the one before left, and the turns are counted down.
-use borrow.Author.Rules.{rules}
+-- Each turn goes on with what the one before left.
 use Rattle.survey_export.specs.Program.{stay}
 use Rattle.survey.specs.Turn.{Leaves}
 use Rattle.survey.proofs.Turns.{goes}
 use Rattle.survey.proofs.run.Goals as goal
 
-pub returns-in-End : goal.returns-in-End
+pub loop-preserved : goal.loop-preserved
 unfolding Leaves
-returns-in-End g c = c.loop-turns.invariant.1.1.1.1 _ _ _ (rw c.in-End.is at c.turn.ensures)
+loop-preserved g c = goes c.loop.invariant (rw c.in-Some.is at c.in_ok-next.ensures)
 
-pub loop-turns-preserved : goal.loop-turns-preserved
+pub returns-in_default : goal.returns-in_default
 unfolding Leaves
-loop-turns-preserved g c = (search rules, (search rules, (search rules, (search rules, goes c.loop-turns.invariant.1.1.1.1 (rw c.in-Next.is at c.turn.ensures)))))
+returns-in_default g c = c.loop.invariant _ _ _ (rw c.in_default.is at c.in_ok-next.ensures)
 
-pub returns : goal.returns
-returns g c = c.loop-turns.invariant.1.1.1.1 _ _ _ stay
+pub returns-after-loop : goal.returns-after-loop
+returns-after-loop g c = c.loop.invariant _ _ _ stay
