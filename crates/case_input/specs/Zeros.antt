@@ -7,8 +7,3 @@ Zeros o = (k : ℕ) → get_or o k 0 ≡ 0
 -- zeros from a place to an end, and from where the case ends on
 abbrev pub Around : List ℕ → ℕ → ℕ → ℕ → Type 0
 Around o place end size = (k : ℕ) → place ≤ k → (k < end) ⊎ (size ≤ k) → get_or o k 0 ≡ 0
-
--- o' has zeros where o has, and from a place to an end
-pub record Cleared (o : List ℕ) (place end : ℕ) (o' : List ℕ) : Type 0 where
-  pub stays : (k : ℕ) → get_or o k 0 ≡ 0 → get_or o' k 0 ≡ 0
-  pub there : (k : ℕ) → place ≤ k → k < end → get_or o' k 0 ≡ 0

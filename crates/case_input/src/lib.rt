@@ -1,168 +1,118 @@
-//! Cases of test programs: a line of an input is a case in hexadecimal. A program asks for one case after the other, and the
-//! loop over them is its own.
+//! Cases of test programs: a line of standard input is a case in hexadecimal, and a program answers one after the other.
 #![tactic(auto)]
 
-ghost use Rattle.std.specs.Prelude.{◌≡◌, ◌-◌, ◌<◌, ◌≤◌, length, drop};
+ghost use Rattle.std.specs.Prelude.{◌≡◌, ◌+◌, ◌%◌, ◌<◌, ◌≤◌, length, drop, fold, slice_index, EachIndex};
 ghost use Rattle.hns_encoding.specs.Bytes.{number_at};
-ghost use Rattle.case_input.specs.Zeros.{Zeros, Around, Cleared};
+ghost use Rattle.case_input.specs.Zeros.{Zeros, Around};
+ghost use Rattle.case_input.specs.Outputs.{mixed};
 
-use hns_encoder::Encoder;
-use std::io::Read;
+use std::io::{self, Read};
 
-// How far the input is taken.
-#[derive(Clone, Copy)]
-pub struct Lines {
-    // How many steps may follow, none after the last case. A proved loop has to end, and nothing says that an input does: so
-    // steps are counted down from a number that no input uses up.
-    pub left: u64,
-    // The bytes of the case.
-    pub size: usize,
-    // Whether a digit stands behind these bytes.
-    half: bool,
-    // Whether the line has ended.
-    whole: bool,
-    // The bytes in the lent buffer, and how many of them are taken.
-    filled: usize,
-    at: usize,
+// The line so far: how many bytes it has given, and the value of a digit behind them.
+#[derive(Clone, Copy, Debug, Default, PartialEq, Eq)]
+struct Line {
+    size: usize,
+    half: Option<u8>,
 }
 
-// Reads until the buffer is full or the input ends, and answers how many bytes that gave. A read that fails is taken for the
-// end: a program that loses its cases so prints less than its file `stdout` holds, and `rt ci` compares the two. So no caller
-// has an error to hand on, and what is promised of an answer holds of each.
-fn fill(input: &mut impl Read, buffer: &mut [u8]) -> usize
-    ensures { result ≤ length buffer.old }
+fn value_of(digit: u8) -> u8
+    ensures { result < 16 }
 {
-    let mut filled: usize = 0;
-    while filled < buffer.len() {
-        let n = match input.read(&mut buffer[filled..]) {
-            Ok(n) => n,
-            Err(_) => 0,
-        };
-        if n == 0 {
-            return filled;
-        }
-        filled += n;
-    }
-    filled
-}
-
-// Reads on, into the whole buffer.
-fn read_on(lines: Lines, input: &mut impl Read, buffer: &mut [u8]) -> Lines
-    requires { 0 < lines.left }
-    ensures { (result.left ≤ lines.left - 1) × (result.size ≡ lines.size) }
-{
-    let filled = fill(input, buffer);
-    let left = if filled == 0 { 0 } else { lines.left - 1 };
-    Lines {
-        left,
-        size: lines.size,
-        half: lines.half,
-        whole: false,
-        filled,
-        at: 0,
-    }
+    (digit % 16 + digit / 58 * 9) % 16
 }
 
 // Takes a digit: two make a byte. One that there is no room for is passed over.
-fn take_digit(lines: Lines, digit: u8, case: &mut [u8]) -> Lines
-    requires { lines.size ≤ length case.old }
-    ensures { (result.left ≡ lines.left) × (result.size ≤ length case.old) }
-{
-    let value = (digit % 16 + digit / 58 * 9) % 16;
-    let i = lines.size;
-    let mut next = lines;
-    if case.len() <= i {
-        return next;
-    }
-    case[i] = case[i] % 16 * 16 + value;
-    if next.half {
-        next.size = i + 1;
-        next.half = false;
-        return next;
-    }
-    next.half = true;
-    next
-}
-
-// Takes the next byte of the buffer, which is filled again where there is none.
-fn step(lines: Lines, input: &mut impl Read, buffer: &mut [u8], case: &mut [u8]) -> Lines
-    requires { (0 < lines.left) × (lines.size ≤ length case.old) }
-    ensures { (result.left ≤ lines.left - 1) × (result.size ≤ length case.old) }
-{
-    let at = lines.at;
-    if lines.filled <= at {
-        return read_on(lines, input, buffer);
-    }
-    let byte = hns_encoding::u8_at(buffer, at);
-    let mut next = lines;
-    next.at = at + 1;
-    next.left -= 1;
-    if byte == 10 {
-        next.whole = true;
-        return next;
-    }
-    take_digit(next, byte, case)
-}
-
-// The next case, where steps are left. The input and the buffer are those that were lent before, as they were left.
-pub fn next_case(lines: Lines, input: &mut impl Read, buffer: &mut [u8], case: &mut [u8]) -> Lines
-    ensures { (result.left ≤ lines.left - 1) × (result.size ≤ length case.old) }
-{
-    let mut now = lines;
-    now.size = 0;
-    now.half = false;
-    now.whole = false;
-    while 0 < now.left {
-        now = step(now, input, buffer, case);
-        if now.whole {
-            return now;
+fn take_digit(line: Line, digit: u8, case: &mut [u8]) -> Line {
+    let size = line.size;
+    let Some(byte) = case.get_mut(size) else {
+        return line;
+    };
+    let value = value_of(digit);
+    match line.half {
+        None => Line {
+            size,
+            half: Some(value),
+        },
+        Some(high) => {
+            *byte = high % 16 * 16 + value;
+            Line {
+                size: size + 1,
+                half: None,
+            }
         }
     }
-    now
 }
 
-pub fn first_case(input: &mut impl Read, buffer: &mut [u8], case: &mut [u8]) -> Lines
-    ensures { result.size ≤ length case.old }
+// Takes what was read, and has each case answered that ends in it.
+fn take_bytes<F: FnMut(&[u8]) -> io::Result<()>>(
+    rt: &impl Print,
+    before: Line,
+    bytes: &[u8],
+    case: &mut [u8],
+    answer: &mut F,
+) -> io::Result<Line>
+    requires { F.IsAlwaysCallable answer.old }
+    ensures { F.IsAlwaysCallable answer.new }
 {
-    let before = Lines {
-        left: 18_446_744_073_709_551_615,
-        size: 0,
-        half: false,
-        whole: false,
-        filled: 0,
-        at: 0,
-    };
-    next_case(before, input, buffer, case)
+    let mut line = before;
+    for byte in bytes {
+        if *byte == b'\n' {
+            answer(hns_encoding::first(case, line.size))?;
+            println!(rt)?;
+            line = Line::default();
+        } else {
+            line = take_digit(line, *byte, case);
+        }
+    }
+    Ok(line)
+}
+
+// Answers each case, in a line of its own. A read that fails is taken for the end: a program that loses its cases so prints
+// less than its file `stdout` holds, and `rt ci` compares the two.
+pub fn run<F: FnMut(&[u8]) -> io::Result<()>>(
+    rt: &impl Print,
+    input: &mut impl Read,
+    buffer: &mut [u8],
+    case: &mut [u8],
+    mut answer: F,
+) -> io::Result<()>
+    requires { F.IsAlwaysCallable answer }
+{
+    let mut line = Line::default();
+    // A proved loop has to end, and nothing says that an input does.
+    for _ in 0..u64::MAX {
+        let n = input.read(buffer).unwrap_or(0);
+        if n == 0 {
+            break;
+        }
+        line = take_bytes(rt, line, &buffer[..n], case, &mut answer)?;
+    }
+    Ok(())
 }
 
 // Where the zeros of a long case stand, and where it ends.
-#[derive(Clone, Copy)]
-pub struct Long {
-    pub zeros: usize,
-    pub end: usize,
-    pub size: usize,
-}
-
-fn least(a: usize, b: usize) -> usize
-    ensures { (result ≤ a) × (result ≤ b) }
-{
-    if a < b { a } else { b }
+#[derive(Clone, Copy, Debug, PartialEq, Eq)]
+struct Long {
+    zeros: usize,
+    end: usize,
+    size: usize,
 }
 
 // Puts the bytes of a long case around the zeros that its line leaves out: so a short line has a case of megabytes. What
 // there is no room for is left out.
-pub fn put_long(given: &[u8], before: usize, zeros: usize, long: &mut [u8]) -> Long
+fn put_long(given: &[u8], before: usize, zeros: usize, long: &mut [u8]) -> Long
     ensures zeros_le_end { (result.zeros ≤ result.end) × ((result.end ≤ result.size) × (result.size ≤ length long.old)) }
     ensures around { Zeros long.old → Around long.new result.zeros result.end result.size }
 {
     let room = long.len();
-    let start = least(before, room);
-    let end = start + least(zeros, room - start);
-    let rest = hns_p2p_fields::from_place(given, before);
-    let more = least(rest.len(), room - end);
+    let start = before.min(room);
+    let end = start + zeros.min(room - start);
+    let rest = hns_encoding::from_place(given, before);
+    let more = rest.len().min(room - end);
     let size = end + more;
-    Encoder::new().put_bytes(long, hns_encoding::first(given, start));
-    Encoder { position: end }.put_bytes(long, hns_encoding::first(rest, more));
+    let front = hns_encoding::first(given, start);
+    long[..front.len()].copy_from_slice(front);
+    long[end..size].copy_from_slice(&rest[..more]);
     Long {
         zeros: start,
         end,
@@ -170,29 +120,34 @@ pub fn put_long(given: &[u8], before: usize, zeros: usize, long: &mut [u8]) -> L
     }
 }
 
-fn clear(bytes: &mut [u8], from: usize, to: usize)
-    ensures { Cleared bytes.old from to bytes.new }
-{
-    let mut i = from;
-    while i < to {
-        if bytes.len() <= i {
-            return;
-        }
-        bytes[i] = 0;
-        i += 1;
-    }
-}
-
 // Makes what was put zeros again, so that no case has to write megabytes.
-pub fn clear_long(put: Long, long: &mut [u8])
+fn clear_long(put: Long, long: &mut [u8])
+    requires { (put.zeros ≤ put.end) × ((put.end ≤ put.size) × (put.size ≤ length long.old)) }
     ensures { Around long.old put.zeros put.end put.size → Zeros long.new }
 {
-    clear(long, 0, put.zeros);
-    clear(long, put.end, put.size);
+    long[..put.zeros].fill(0);
+    long[put.end..put.size].fill(0);
+}
+
+// Asks what is to be asked of a long case, and makes its bytes zeros again.
+pub fn with_long<T, F: FnOnce(&[u8]) -> T>(
+    given: &[u8],
+    before: usize,
+    zeros: usize,
+    long: &mut [u8],
+    ask: F,
+) -> T
+    requires { F.IsAlwaysCallable ask }
+    ensures { Zeros long.old → Zeros long.new }
+{
+    let put = put_long(given, before, zeros, long);
+    let answer = ask(&long[..put.size]);
+    clear_long(put, long);
+    answer
 }
 
 // What stands before the bytes of a case of the Rust's answers: its kind, a packet type or a network, and three numbers.
-#[derive(Clone, Copy)]
+#[derive(Clone, Copy, Debug, PartialEq, Eq)]
 pub struct Asked {
     pub kind: u8,
     pub about: u8,
@@ -217,22 +172,39 @@ pub fn question(case: &[u8]) -> Asked
 pub fn question_bytes(case: &[u8]) -> &[u8]
     ensures { result.now ≡ drop 26 case.now }
 {
-    hns_p2p_fields::from_place(case, 26)
+    hns_encoding::from_place(case, 26)
 }
 
-// Puts the bytes of a long question: its last two numbers say which zeros they leave out.
-pub fn put_question(case: &[u8], long: &mut [u8]) -> Long
-    ensures zeros_le_end { (result.zeros ≤ result.end) × ((result.end ≤ result.size) × (result.size ≤ length long.old)) }
-    ensures around { Zeros long.old → Around long.new result.zeros result.end result.size }
+// Asks a long question: its last two numbers say which zeros its bytes leave out.
+pub fn with_question<T, F: FnOnce(Asked, &[u8]) -> T>(case: &[u8], long: &mut [u8], ask: F) -> T
+    requires { F.IsAlwaysCallable ask }
+    ensures { Zeros long.old → Zeros long.new }
 {
     let q = question(case);
-    put_long(question_bytes(case), q.b as usize, q.c as usize, long)
+    let given = question_bytes(case);
+    with_long(
+        given,
+        q.b as usize,
+        q.c as usize,
+        long,
+        |bytes| ask(q, bytes),
+    )
 }
 
-// An array as a slice. `main` knows each byte of its array, and a proof there that counts them takes a step for each; here the
-// type says how many there are.
-pub fn whole<const N: usize>(array: &mut [u8; N]) -> &mut [u8]
-    ensures { result.now ≡ array.entry.now }
+// What a store or an output holds before a call. No byte is zero, since what is not kept is written as zero, and no two near each
+// other are the same, so that a byte that moved shows.
+pub fn fill(out: &mut [u8])
+    ensures size { length out.new ≡ length out.old }
+    ensures bytes { EachIndex out.new (λ k. slice_index out.new k ≡ k % 251 + 1) }
 {
-    array
+    for (place, byte) in out.iter_mut().enumerate() {
+        *byte = (place % 251 + 1) as u8;
+    }
+}
+
+// A number for all bytes of an output, those that are not shown among them.
+pub fn sum(bytes: &[u8]) -> u64
+    ensures { result ≡ fold mixed 0 bytes.now }
+{
+    bytes.iter().fold(0, |sum, byte| sum % 4_294_967_291 * 257 + u64::from(*byte))
 }

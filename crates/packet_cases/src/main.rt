@@ -7,11 +7,14 @@
 //! bytes: how many of these stand before the zeros, and how many zeros there are.
 #![tactic(auto)]
 
-use case_lines::{field, hex, number, refused, signed, text};
+use hns_encoding::{from_place, u8_at, u64_at};
 use hns_p2p_types::{
-    Found, Hash, Item, Items, LocatorPacket, Packet, RejectPacket, Span, Stored, VersionPacket,
+    CompactBlockRequest, GetProofPacket, Item, Items, LocatorPacket, NetAddress, Packet,
+    RejectPacket, Span, VersionPacket,
 };
-use std::io::{self, Read};
+use hns_refusals::Refusal;
+use std::fmt::{self, Display};
+use std::io;
 
 const FRONT: usize = 10;
 
@@ -24,303 +27,278 @@ const ROOM: usize = 20_000;
 // Bytes of a long case's rest: a hash, and a payload one byte over the limit. The stack of 8 MB has room for one of these.
 const LONG_ROOM: usize = 8_000_033;
 
-fn address(rt: &impl Print, a: hns_p2p_types::NetAddress) -> io::Result<()> {
-    number(rt, a.time)?;
-    number(rt, a.services)?;
-    number(rt, a.ip_first)?;
-    number(rt, a.ip_last)?;
-    number(rt, a.port as u64)?;
-    number(rt, a.key as u64)
-}
+// An answer as it is printed.
+#[derive(Clone, Copy, Debug, PartialEq, Eq)]
+struct Shown<T>(T);
 
-fn version(rt: &impl Print, v: VersionPacket) -> io::Result<()> {
-    text(rt, b"version")?;
-    number(rt, v.version as u64)?;
-    number(rt, v.services)?;
-    number(rt, v.time)?;
-    let remote = v.remote;
-    address(rt, remote)?;
-    number(rt, v.nonce)?;
-    let agent = v.agent;
-    number(rt, agent.start as u64)?;
-    number(rt, agent.length as u64)?;
-    number(rt, v.height as u64)?;
-    if v.no_relay {
-        number(rt, 1)
-    } else {
-        number(rt, 0)
+impl Display for Shown<Span> {
+    fn fmt<W: fmt::Write>(&self, f: &mut fmt::Formatter<W>) -> fmt::Result {
+        let Span { start, length } = self.0;
+        write!(f, "{start} {length}")
     }
 }
 
-fn reject(rt: &impl Print, r: RejectPacket) -> io::Result<()> {
-    text(rt, b"reject")?;
-    number(rt, r.message as u64)?;
-    number(rt, r.code as u64)?;
-    let reason = r.reason;
-    number(rt, reason.start as u64)?;
-    number(rt, reason.length as u64)?;
-    let hash = r.hash;
-    match hash {
-        Hash::At(place) => number(rt, place as u64),
-        Hash::Absent => text(rt, b" -"),
+impl Display for Shown<Items> {
+    fn fmt<W: fmt::Write>(&self, f: &mut fmt::Formatter<W>) -> fmt::Result {
+        let Items { count, first } = self.0;
+        write!(f, "{count} {first}")
     }
 }
 
-fn listed(rt: &impl Print, name: &[u8], items: Items) -> io::Result<()> {
-    text(rt, name)?;
-    number(rt, items.count as u64)?;
-    number(rt, items.first as u64)
-}
-
-fn locator(rt: &impl Print, name: &[u8], packet: LocatorPacket) -> io::Result<()> {
-    let items = packet.locator;
-    listed(rt, name, items)?;
-    number(rt, packet.stop as u64)
-}
-
-fn raw(rt: &impl Print, packet_type: u64, span: Span) -> io::Result<()> {
-    text(rt, b"raw")?;
-    number(rt, packet_type)?;
-    number(rt, span.start as u64)?;
-    number(rt, span.length as u64)
-}
-
-// The packets of lists and raw bytes; the others are printed by `show`.
-fn show_rest(rt: &impl Print, packet: Packet) -> io::Result<()> {
-    match packet {
-        Packet::Addr(items) => listed(rt, b"addr", items),
-        Packet::Inv(items) => listed(rt, b"inv", items),
-        Packet::GetData(items) => listed(rt, b"getdata", items),
-        Packet::NotFound(items) => listed(rt, b"notfound", items),
-        Packet::Headers(items) => listed(rt, b"headers", items),
-        Packet::GetBlocks(packet) => locator(rt, b"getblocks", packet),
-        Packet::GetHeaders(packet) => locator(rt, b"getheaders", packet),
-        Packet::Block(span) => raw(rt, 13, span),
-        Packet::Tx(span) => raw(rt, 14, span),
-        Packet::FilterLoad(span) => raw(rt, 17, span),
-        Packet::FilterAdd(span) => raw(rt, 18, span),
-        Packet::MerkleBlock(span) => raw(rt, 20, span),
-        Packet::CmpctBlock(span) => raw(rt, 23, span),
-        Packet::BlockTxn(span) => raw(rt, 25, span),
-        Packet::Proof(span) => raw(rt, 27, span),
-        Packet::Claim(span) => raw(rt, 28, span),
-        Packet::Airdrop(span) => raw(rt, 29, span),
-        Packet::Unknown {
-            packet_type,
-            payload,
-        } => raw(rt, packet_type as u64, payload),
-        _ => text(rt, b"?"),
+impl Display for Shown<LocatorPacket> {
+    fn fmt<W: fmt::Write>(&self, f: &mut fmt::Formatter<W>) -> fmt::Result {
+        let LocatorPacket { locator, stop } = self.0;
+        write!(f, "{} {stop}", Shown(locator))
     }
 }
 
-fn show(rt: &impl Print, packet: Packet) -> io::Result<()> {
-    match packet {
-        Packet::Version(v) => version(rt, v),
-        Packet::Verack => text(rt, b"verack"),
-        Packet::Ping(nonce) => field(rt, b"ping", nonce),
-        Packet::Pong(nonce) => field(rt, b"pong", nonce),
-        Packet::GetAddr => text(rt, b"getaddr"),
-        Packet::SendHeaders => text(rt, b"sendheaders"),
-        Packet::Reject(r) => reject(rt, r),
-        Packet::Mempool => text(rt, b"mempool"),
-        Packet::FilterClear => text(rt, b"filterclear"),
-        Packet::FeeFilter(rate) => {
-            text(rt, b"feefilter")?;
-            signed(rt, rate)
-        }
-        Packet::SendCmpct { mode, version } => {
-            field(rt, b"sendcmpct", mode as u64)?;
-            number(rt, version)
-        }
-        Packet::GetBlockTxn(request) => {
-            field(rt, b"getblocktxn", request.block_hash as u64)?;
-            let indexes = request.indexes;
-            listed(rt, b"", indexes)
-        }
-        Packet::GetProof(packet) => {
-            field(rt, b"getproof", packet.root as u64)?;
-            number(rt, packet.key as u64)
-        }
-        Packet::Refused(refusal) => refused(rt, refusal),
-        _ => show_rest(rt, packet),
+impl Display for Shown<NetAddress> {
+    fn fmt<W: fmt::Write>(&self, f: &mut fmt::Formatter<W>) -> fmt::Result {
+        let a = self.0;
+        write!(
+            f,
+            "{} {} {} {} {} {}",
+            a.time, a.services, a.ip_first, a.ip_last, a.port, a.key
+        )
     }
 }
 
+impl Display for Shown<VersionPacket> {
+    fn fmt<W: fmt::Write>(&self, f: &mut fmt::Formatter<W>) -> fmt::Result {
+        let v = self.0;
+        write!(
+            f,
+            "{} {} {} {} ",
+            v.version,
+            v.services,
+            v.time,
+            Shown(v.remote)
+        )?;
+        write!(
+            f,
+            "{} {} {} {}",
+            v.nonce,
+            Shown(v.agent),
+            v.height,
+            v.no_relay as u8
+        )
+    }
+}
+
+impl Display for Shown<RejectPacket> {
+    fn fmt<W: fmt::Write>(&self, f: &mut fmt::Formatter<W>) -> fmt::Result {
+        let r = self.0;
+        write!(f, "{} {} {} ", r.message, r.code, Shown(r.reason))?;
+        match r.hash {
+            Some(place) => write!(f, "{place}"),
+            None => write!(f, "-"),
+        }
+    }
+}
+
+impl Display for Shown<Packet> {
+    fn fmt<W: fmt::Write>(&self, f: &mut fmt::Formatter<W>) -> fmt::Result {
+        match self.0 {
+            Packet::Version(packet) => write!(f, "version {}", Shown(packet)),
+            Packet::Verack => write!(f, "verack"),
+            Packet::Ping(nonce) => write!(f, "ping {nonce}"),
+            Packet::Pong(nonce) => write!(f, "pong {nonce}"),
+            Packet::GetAddr => write!(f, "getaddr"),
+            Packet::Addr(items) => write!(f, "addr {}", Shown(items)),
+            Packet::Inv(items) => write!(f, "inv {}", Shown(items)),
+            Packet::GetData(items) => write!(f, "getdata {}", Shown(items)),
+            Packet::NotFound(items) => write!(f, "notfound {}", Shown(items)),
+            Packet::GetBlocks(packet) => write!(f, "getblocks {}", Shown(packet)),
+            Packet::GetHeaders(packet) => write!(f, "getheaders {}", Shown(packet)),
+            Packet::Headers(items) => write!(f, "headers {}", Shown(items)),
+            Packet::SendHeaders => write!(f, "sendheaders"),
+            Packet::Block(span) => write!(f, "raw 13 {}", Shown(span)),
+            Packet::Tx(span) => write!(f, "raw 14 {}", Shown(span)),
+            Packet::Reject(packet) => write!(f, "reject {}", Shown(packet)),
+            Packet::Mempool => write!(f, "mempool"),
+            Packet::FilterLoad(span) => write!(f, "raw 17 {}", Shown(span)),
+            Packet::FilterAdd(span) => write!(f, "raw 18 {}", Shown(span)),
+            Packet::FilterClear => write!(f, "filterclear"),
+            Packet::MerkleBlock(span) => write!(f, "raw 20 {}", Shown(span)),
+            Packet::FeeFilter(rate) => write!(f, "feefilter {rate}"),
+            Packet::SendCmpct { mode, version } => write!(f, "sendcmpct {mode} {version}"),
+            Packet::CmpctBlock(span) => write!(f, "raw 23 {}", Shown(span)),
+            Packet::GetBlockTxn(
+                CompactBlockRequest {
+                    block_hash,
+                    indexes,
+                },
+            ) => { write!(f, "getblocktxn {block_hash} {}", Shown(indexes)) }
+            Packet::BlockTxn(span) => write!(f, "raw 25 {}", Shown(span)),
+            Packet::GetProof(GetProofPacket { root, key }) => write!(f, "getproof {root} {key}"),
+            Packet::Proof(span) => write!(f, "raw 27 {}", Shown(span)),
+            Packet::Claim(span) => write!(f, "raw 28 {}", Shown(span)),
+            Packet::Airdrop(span) => write!(f, "raw 29 {}", Shown(span)),
+            Packet::Unknown {
+                packet_type,
+                payload,
+            } => { write!(f, "raw {packet_type} {}", Shown(payload)) }
+        }
+    }
+}
+
+impl Display for Shown<Item> {
+    fn fmt<W: fmt::Write>(&self, f: &mut fmt::Formatter<W>) -> fmt::Result {
+        match self.0 {
+            Item::Address(address) => write!(f, "address {}", Shown(address)),
+            Item::Inventory { kind, hash } => write!(f, "inventory {kind} {hash}"),
+            Item::Hash(place) => write!(f, "hash {place}"),
+            Item::Header(place) => write!(f, "header {place}"),
+            Item::Index(index) => write!(f, "index {index}"),
+        }
+    }
+}
+
+// What is asked, by a case's first byte.
+#[derive(Clone, Copy, Debug, PartialEq, Eq)]
+enum Question {
+    Packet,
+    Item,
+    Hash,
+    Indexes,
+}
+
+impl From<u8> for Question {
+    fn from(byte: u8) -> Question {
+        match byte % 4 {
+            0 => Question::Packet,
+            1 => Question::Item,
+            2 => Question::Hash,
+            _ => Question::Indexes,
+        }
+    }
+}
+
+fn show<T: Copy>(rt: &impl Print, answer: Result<T, Refusal>) -> io::Result<()>
+where
+    Shown<T>: Display + Drop,
+{
+    match answer {
+        Ok(value) => print!(rt; "{}", Shown(value)),
+        Err(refusal) => case_lines::refused(rt, refusal),
+    }
+}
+
+// The packet, and the output that was lent for a text.
 fn ask_packet(rt: &impl Print, packet_type: u8, payload: &[u8], out: &mut [u8]) -> io::Result<()> {
-    let no_terms = [0u64; 0];
-    let packet = hns_p2p_packet::read_packet(&no_terms, packet_type, payload, out);
-    show(rt, packet)?;
-    text(rt, b" text")?;
-    if 0 < out.len() {
-        hex(rt, out)?;
+    show(
+        rt,
+        hns_p2p_packet::read_packet(&[], packet_type, payload, out),
+    )?;
+    print!(rt; " text")?;
+    if !out.is_empty() {
+        case_lines::hex(rt, out)?;
     }
     Ok(())
 }
 
 fn ask_item(rt: &impl Print, packet_type: u8, payload: &[u8], place: usize) -> io::Result<()> {
-    let no_terms = [0u64; 0];
-    match hns_p2p_items::item(&no_terms, packet_type, payload, place) {
-        Item::Address(a) => {
-            text(rt, b"address")?;
-            address(rt, a)
-        }
-        Item::Inventory { kind, hash } => {
-            field(rt, b"inventory", kind as u64)?;
-            number(rt, hash as u64)
-        }
-        Item::Hash(place) => field(rt, b"hash", place as u64),
-        Item::Header(place) => field(rt, b"header", place as u64),
-        Item::Index(index) => field(rt, b"index", index),
-        Item::Refused(refusal) => refused(rt, refusal),
+    show(rt, hns_p2p_items::item(&[], packet_type, payload, place))
+}
+
+// Whether the item at a place has the hash: document 01 leaves open which place is answered.
+fn stands(packet_type: u8, payload: &[u8], place: usize, hash: [u8; 32]) -> bool {
+    match hns_p2p_items::item(&[], packet_type, payload, place) {
+        Ok(Item::Inventory { hash: at, .. }) => from_place(payload, at).starts_with(&hash),
+        _ => false,
     }
 }
 
-// Whether the bytes at a place are the hash.
-fn stands(payload: &[u8], at: usize, hash: &[u8]) -> bool {
-    if payload.len() < at {
-        return false;
-    }
-    let there = &payload[at..];
-    let first = hns_encoding::u64_at(there, 0) == hns_encoding::u64_at(hash, 0);
-    let second = hns_encoding::u64_at(there, 8) == hns_encoding::u64_at(hash, 8);
-    let third = hns_encoding::u64_at(there, 16) == hns_encoding::u64_at(hash, 16);
-    let last = hns_encoding::u64_at(there, 24) == hns_encoding::u64_at(hash, 24);
-    (there.len() >= 32) & (first & (second & (third & last)))
-}
-
-// Document 01 leaves open which place is answered: the hash must stand there.
 fn ask_find(rt: &impl Print, packet_type: u8, payload: &[u8], hash: [u8; 32]) -> io::Result<()> {
-    let no_terms = [0u64; 0];
-    match hns_p2p_find::find(&no_terms, packet_type, payload, hash) {
-        Found::Nowhere => text(rt, b"nowhere"),
-        Found::Refused(refusal) => refused(rt, refusal),
-        Found::At(place) => {
-            text(rt, b"found")?;
-            let found = hns_p2p_items::item(&no_terms, packet_type, payload, place);
-            if let Item::Inventory { kind: _, hash: at } = found {
-                if stands(payload, at, &hash) {
-                    return Ok(());
-                }
-            }
-            text(rt, b" wrong")
-        }
+    match hns_p2p_find::find(&[], packet_type, payload, hash) {
+        Err(refusal) => case_lines::refused(rt, refusal),
+        Ok(None) => print!(rt; "nowhere"),
+        Ok(Some(place)) if stands(packet_type, payload, place, hash) => print!(rt; "found"),
+        Ok(Some(_)) => print!(rt; "found wrong"),
     }
 }
 
 // What is stored, and what stands after it.
-fn numbers(rt: &impl Print, values: &[u64], stored: usize) -> io::Result<()> {
-    let mut i = 0;
-    while i < values.len() {
-        if i == stored {
-            text(rt, b" rest")?;
-        }
-        number(rt, values[i])?;
-        i += 1;
-    }
-    if stored == values.len() {
-        text(rt, b" rest")?;
-    }
-    Ok(())
-}
-
 fn ask_indexes(rt: &impl Print, payload: &[u8], out: &mut [u64]) -> io::Result<()> {
-    let no_terms = [0u64; 0];
-    let stored = match hns_p2p_indexes::indexes(&no_terms, payload, out) {
-        Stored::Refused(refusal) => {
-            refused(rt, refusal)?;
-            0
-        }
-        Stored::Count(count) => {
-            field(rt, b"indexes", count as u64)?;
+    let stored = match hns_p2p_indexes::indexes(&[], payload, out) {
+        Ok(count) => {
+            print!(rt; "indexes {count}")?;
             count
         }
+        Err(refusal) => {
+            case_lines::refused(rt, refusal)?;
+            0
+        }
     };
-    numbers(rt, out, stored)
+    let (stored, rest) = out.split_at(stored.min(out.len()));
+    case_lines::numbers(rt, stored)?;
+    print!(rt; " rest")?;
+    case_lines::numbers(rt, rest)
 }
 
-fn ask(rt: &impl Print, asked: u8, packet_type: u8, n: usize, rest: &[u8]) -> io::Result<()> {
-    if asked == 0 {
-        let mut out = [0xaau8; 320];
-        if n <= 320 {
-            ask_packet(rt, packet_type, rest, &mut out[..n])?;
-        }
-    } else if asked == 1 {
-        ask_item(rt, packet_type, rest, n)?;
-    } else if asked == 3 {
-        let mut out = [7u64; 64];
-        if n <= 64 {
-            ask_indexes(rt, rest, &mut out[..n])?;
-        }
-    } else if 32 <= rest.len() {
-        let hash = hns_encoder::array32_at(rest, 0);
-        ask_find(rt, packet_type, &rest[32..], hash)?;
-    }
-    Ok(())
-}
-
-fn ask_long(
-    rt: &impl Print,
-    asked: u8,
+// What a case asks about its rest.
+#[derive(Clone, Copy, Debug, PartialEq, Eq)]
+struct Asked {
+    question: Question,
     packet_type: u8,
     n: usize,
-    rest: &[u8],
-    long: &mut [u8],
-) -> io::Result<()> {
-    let before = hns_encoding::u64_at(rest, 0) as usize;
-    let zeros = hns_encoding::u64_at(rest, 8) as usize;
-    let given = hns_p2p_fields::from_place(rest, LONG_FRONT);
-    let put = case_input::put_long(given, before, zeros, long);
-    ask(
-        rt,
-        asked,
-        packet_type,
-        n,
-        hns_encoding::first(long, put.size),
-    )?;
-    case_input::clear_long(put, long);
-    Ok(())
+}
+
+// Nothing is asked where there is no room for what is lent, or no hash.
+fn ask(rt: &impl Print, asked: Asked, rest: &[u8]) -> io::Result<()> {
+    let mut text = [0xaau8; 320];
+    let mut indexes = [7u64; 64];
+    let packet_type = asked.packet_type;
+    match asked.question {
+        Question::Packet => match text.get_mut(..asked.n) {
+            Some(out) => ask_packet(rt, packet_type, rest, out),
+            None => Ok(()),
+        },
+        Question::Item => ask_item(rt, packet_type, rest, asked.n),
+        Question::Hash => match rest.split_first_chunk() {
+            Some((hash, payload)) => ask_find(rt, packet_type, payload, *hash),
+            None => Ok(()),
+        },
+        Question::Indexes => match indexes.get_mut(..asked.n) {
+            Some(out) => ask_indexes(rt, rest, out),
+            None => Ok(()),
+        },
+    }
+}
+
+fn ask_long(rt: &impl Print, asked: Asked, rest: &[u8], long: &mut [u8]) -> io::Result<()> {
+    let before = u64_at(rest, 0) as usize;
+    let zeros = u64_at(rest, 8) as usize;
+    let given = from_place(rest, LONG_FRONT);
+    case_input::with_long(given, before, zeros, long, |rest| ask(rt, asked, rest))
 }
 
 fn answer(rt: &impl Print, case: &[u8], long: &mut [u8]) -> io::Result<()> {
-    if case.len() < FRONT {
+    let Some(rest) = case.get(FRONT..) else {
         return Ok(());
+    };
+    let byte = u8_at(case, 0);
+    let asked = Asked {
+        question: Question::from(byte),
+        packet_type: u8_at(case, 1),
+        n: u64_at(case, 2) as usize,
+    };
+    if byte < 4 {
+        ask(rt, asked, rest)
+    } else {
+        ask_long(rt, asked, rest, long)
     }
-    let asked = hns_encoding::u8_at(case, 0);
-    let packet_type = hns_encoding::u8_at(case, 1);
-    let n = hns_encoding::u64_at(case, 2) as usize;
-    let rest = &case[FRONT..];
-    if asked < 4 {
-        return ask(rt, asked, packet_type, n, rest);
-    }
-    ask_long(rt, asked - 4, packet_type, n, rest, long)
-}
-
-fn run(
-    rt: &impl Print,
-    input: &mut impl Read,
-    buffer: &mut [u8],
-    case: &mut [u8],
-    long: &mut [u8],
-) -> io::Result<()> {
-    let mut lines = case_input::first_case(input, buffer, case);
-    while 0 < lines.left {
-        answer(rt, hns_encoding::first(case, lines.size), long)?;
-        case_lines::end_line(rt)?;
-        lines = case_input::next_case(lines, input, buffer, case);
-    }
-    Ok(())
 }
 
 fn main(rt: HostRuntime) -> io::Result<()> {
-    let mut input = rt.stdin();
     let mut buffer = [0u8; 65_536];
     let mut case = [0u8; ROOM];
     let mut long = [0u8; LONG_ROOM];
-    run(
+    case_input::run(
         &rt,
-        &mut input,
+        &mut rt.stdin(),
         &mut buffer,
         &mut case,
-        case_input::whole(&mut long),
+        |case| answer(&rt, case, &mut long),
     )
 }

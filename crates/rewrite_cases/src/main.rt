@@ -6,11 +6,9 @@
 //! So a short line has a payload of a thousand addresses, or of megabytes.
 #![tactic(auto)]
 
-use case_lines::{field, refused, text};
 use hns_encoder::Encoder;
-use hns_p2p_fields::from_place;
-use hns_p2p_frame::Encoded;
-use std::io::{self, Read};
+use hns_encoding::{first, from_place, u8_at, u32_at};
+use std::io;
 
 // The type and the four numbers.
 const FRONT: usize = 17;
@@ -28,137 +26,80 @@ const OUT_ROOM: usize = 88_100;
 const WHOLE: usize = 400;
 
 fn hex(rt: &impl Print, bytes: &[u8]) -> io::Result<()> {
-    if 0 < bytes.len() {
-        case_lines::hex(rt, bytes)?;
+    if bytes.is_empty() {
+        return Ok(());
     }
-    Ok(())
-}
-
-// What an output holds before the call. No byte is zero, since what is not kept is written as zero.
-fn fill(out: &mut [u8]) {
-    let mut i: usize = 0;
-    while i < out.len() {
-        out[i] = (i % 251 + 1) as u8;
-        i += 1;
-    }
-}
-
-fn mix(sum: u64, byte: u8) -> u64 {
-    sum % 4_294_967_291 * 257 + byte as u64
-}
-
-// A number for all bytes of an output, so that those that are not shown count too.
-fn sum(bytes: &[u8]) -> u64 {
-    let mut total: u64 = 0;
-    let mut i: usize = 0;
-    while i < bytes.len() {
-        total = mix(total, bytes[i]);
-        i += 1;
-    }
-    total
+    case_lines::hex(rt, bytes)
 }
 
 // What was written, some bytes behind it, and the sum of the whole output.
 fn show(rt: &impl Print, out: &[u8], written: usize) -> io::Result<()> {
-    let bytes = hns_encoding::first(out, written);
+    let bytes = first(out, written);
     if bytes.len() <= WHOLE {
         hex(rt, bytes)?;
     } else {
-        hex(rt, hns_encoding::first(bytes, 64))?;
-        text(rt, b" to")?;
+        hex(rt, first(bytes, 64))?;
+        print!(rt; " to")?;
         hex(rt, from_place(bytes, bytes.len() - 8))?;
     }
-    text(rt, b" behind")?;
-    hex(rt, hns_encoding::first(from_place(out, written), 8))?;
-    field(rt, b" sum", sum(out))
+    print!(rt; " behind")?;
+    hex(rt, first(from_place(out, written), 8))?;
+    print!(rt; " sum {}", case_input::sum(out))
 }
 
 fn ask(rt: &impl Print, packet_type: u8, payload: &[u8], out: &mut [u8]) -> io::Result<()> {
-    fill(out);
-    let no_terms = [0u64; 0];
-    let written = match hns_p2p_rewrite::rewrite(&no_terms, packet_type, payload, out) {
-        Encoded::Refused(why) => {
-            refused(rt, why)?;
-            0
-        }
-        Encoded::Written(n) => {
-            field(rt, b"written", n as u64)?;
+    case_input::fill(out);
+    let written = match hns_p2p_rewrite::rewrite(&[], packet_type, payload, out) {
+        Ok(n) => {
+            print!(rt; "written {n}")?;
             n
+        }
+        Err(refusal) => {
+            case_lines::refused(rt, refusal)?;
+            0
         }
     };
     show(rt, out, written)
 }
 
-fn put_run(encoder: Encoder, out: &mut [u8], piece: &[u8], times: usize) -> Encoder {
+fn put_run(encoder: Encoder, out: &mut [u8], piece: &[u8], times: u32) -> Encoder {
     let mut e = encoder;
-    let mut i: usize = 0;
-    while i < times {
+    for _ in 0..times {
         e = e.put_bytes(out, piece);
-        i += 1;
     }
     e
 }
 
 // Puts the payload that a case stands for, and answers its length.
 fn put_payload(case: &[u8], payload: &mut [u8]) -> usize {
-    let before = hns_encoding::u32_at(case, 5) as usize;
-    let width = hns_encoding::u32_at(case, 9) as usize;
-    let times = hns_encoding::u32_at(case, 13) as usize;
+    let before = u32_at(case, 5) as usize;
+    let width = u32_at(case, 9) as usize;
     let given = from_place(case, FRONT);
     let rest = from_place(given, before);
-    let e = Encoder::new().put_bytes(payload, hns_encoding::first(given, before));
-    let e = put_run(e, payload, hns_encoding::first(rest, width), times);
+    let e = Encoder::new().put_bytes(payload, first(given, before));
+    let e = put_run(e, payload, first(rest, width), u32_at(case, 13));
     let e = e.put_bytes(payload, from_place(rest, width));
     e.position
 }
 
 // Nothing is asked where the payload or the output is longer than there is room for.
 fn answer(rt: &impl Print, case: &[u8], payload: &mut [u8], out: &mut [u8]) -> io::Result<()> {
-    let packet_type = hns_encoding::u8_at(case, 0);
-    let size = hns_encoding::u32_at(case, 1) as usize;
     let length = put_payload(case, payload);
-    if length <= payload.len() {
-        if size <= out.len() {
-            ask(
-                rt,
-                packet_type,
-                hns_encoding::first(payload, length),
-                &mut out[..size],
-            )?;
-        }
+    match (
+        payload.get(..length),
+        out.get_mut(..u32_at(case, 1) as usize),
+    ) {
+        (Some(payload), Some(out)) => ask(rt, u8_at(case, 0), payload, out),
+        _ => Ok(()),
     }
-    Ok(())
-}
-
-fn run(
-    rt: &impl Print,
-    input: &mut impl Read,
-    buffer: &mut [u8],
-    case: &mut [u8],
-    payload: &mut [u8],
-    out: &mut [u8],
-) -> io::Result<()> {
-    let mut lines = case_input::first_case(input, buffer, case);
-    while 0 < lines.left {
-        answer(rt, hns_encoding::first(case, lines.size), payload, out)?;
-        case_lines::end_line(rt)?;
-        lines = case_input::next_case(lines, input, buffer, case);
-    }
-    Ok(())
 }
 
 fn main(rt: HostRuntime) -> io::Result<()> {
-    let mut input = rt.stdin();
     let mut buffer = [0u8; 4_096];
     let mut case = [0u8; ROOM];
     let mut payload = [0u8; PAYLOAD_ROOM];
     let mut out = [0u8; OUT_ROOM];
-    run(
-        &rt,
-        &mut input,
-        &mut buffer,
-        &mut case,
-        case_input::whole(&mut payload),
-        &mut out,
-    )
+    case_input::run(&rt, &mut rt.stdin(), &mut buffer, &mut case, |case| {
+        answer(&rt, case, &mut payload, &mut out)
+    })
 }

@@ -11,9 +11,10 @@
 #![tactic(auto)]
 
 use case_input::Asked;
-use hns_encoder::Encoder;
-use hns_p2p_fields::from_place;
-use std::io::{self, Read};
+use case_lines::{hex_or_none, number, numbers, part};
+use hns_encoding::{first, from_place};
+use hns_p2p_types::PacketType;
+use std::io;
 
 // Bytes of a line.
 const ROOM: usize = 4_096;
@@ -24,214 +25,177 @@ const LONG_ROOM: usize = 8_000_033;
 // Bytes of a lent output.
 const OUT_ROOM: usize = 1_024;
 
-// So many bytes at a place.
-fn there(bytes: &[u8], at: u64, n: u64) -> &[u8] {
-    hns_encoding::first(from_place(bytes, at as usize), n as usize)
-}
-
-fn mask(bytes: &mut [u8]) {
-    let mut i = 0;
-    while i < bytes.len() {
-        bytes[i] = bytes[i] % 128;
-        i += 1;
-    }
-}
-
-// A text, each byte without its top bit.
-fn masked(rt: &impl Print, bytes: &[u8]) -> io::Result<()> {
+// So many bytes at a place, as a text: each without its top bit.
+fn masked(rt: &impl Print, bytes: &[u8], at: u64, n: u64) -> io::Result<()> {
     let mut shown = [0u8; 255];
-    Encoder::new().put_bytes(&mut shown, bytes);
-    mask(&mut shown);
-    case_lines::hex_or_none(rt, hns_encoding::first(&shown, bytes.len()))
+    let there = first(from_place(bytes, at as usize), n as usize);
+    for (to, byte) in shown.iter_mut().zip(there) {
+        *to = byte % 128;
+    }
+    hex_or_none(rt, first(&shown, there.len()))
 }
 
-fn two(rt: &impl Print, row: [u64; 16]) -> io::Result<()> {
-    case_lines::number(rt, row[1])?;
-    case_lines::number(rt, row[2])
+// What follows the first number of a row that is no refusal.
+fn answered<F: FnOnce() -> io::Result<()>>(
+    rt: &impl Print,
+    row: [u64; 16],
+    show: F,
+) -> io::Result<()>
+    requires { F.IsAlwaysCallable show }
+{
+    // A row of the C interface begins with 0 where it is no refusal.
+    if row[0] == 0 {
+        number(rt, 0)?;
+        show()
+    } else {
+        case_lines::refusal(rt, row)
+    }
 }
 
 fn version(rt: &impl Print, payload: &[u8], row: [u64; 16]) -> io::Result<()> {
-    case_lines::five(rt, row[1], row[2], row[3], row[4], row[5])?;
-    case_lines::five(rt, row[6], row[7], row[8], row[10], row[13])?;
-    case_lines::number(rt, row[14])?;
-    case_lines::part(rt, payload, row[9], 33)?;
-    masked(rt, there(payload, row[11], row[12]))
+    numbers(rt, &row[1..9])?;
+    numbers(rt, &[row[10], row[13], row[14]])?;
+    part(rt, payload, row[9], 33)?;
+    masked(rt, payload, row[11], row[12])
 }
 
 fn listed(rt: &impl Print, payload: &[u8], row: [u64; 16]) -> io::Result<()> {
-    case_lines::number(rt, row[1])?;
-    case_lines::hex_or_none(rt, from_place(payload, row[2] as usize))
+    number(rt, row[1])?;
+    hex_or_none(rt, from_place(payload, row[2] as usize))
 }
 
 fn locator(rt: &impl Print, payload: &[u8], row: [u64; 16]) -> io::Result<()> {
-    case_lines::number(rt, row[1])?;
-    case_lines::hex_or_none(
-        rt,
-        from_place(
-            hns_encoding::first(payload, row[3] as usize),
-            row[2] as usize,
-        ),
-    )?;
-    case_lines::part(rt, payload, row[3], 32)
+    listed(rt, first(payload, row[3] as usize), row)?;
+    part(rt, payload, row[3], 32)
 }
 
 fn reject(rt: &impl Print, payload: &[u8], row: [u64; 16]) -> io::Result<()> {
-    two(rt, row)?;
-    case_lines::number(rt, row[5])?;
-    masked(rt, there(payload, row[3], row[4]))?;
-    case_lines::part(rt, payload, row[6], row[5] % 2 * 32)
+    numbers(rt, &[row[1], row[2], row[5]])?;
+    masked(rt, payload, row[3], row[4])?;
+    part(rt, payload, row[6], row[5] % 2 * 32)
 }
 
 fn getblocktxn(rt: &impl Print, payload: &[u8], row: [u64; 16]) -> io::Result<()> {
-    two(rt, row)?;
-    case_lines::part(rt, payload, row[3], 32)
+    numbers(rt, &row[1..3])?;
+    part(rt, payload, row[3], 32)
 }
 
 fn getproof(rt: &impl Print, payload: &[u8], row: [u64; 16]) -> io::Result<()> {
-    case_lines::part(rt, payload, row[1], 32)?;
-    case_lines::part(rt, payload, row[2], 32)
-}
-
-// One type for all that are alike.
-fn form(packet_type: u8) -> u8 {
-    match packet_type {
-        4 | 12 | 16 | 19 => 1,
-        3 => 2,
-        7 | 8 => 6,
-        10 => 9,
-        _ => packet_type,
-    }
+    part(rt, payload, row[1], 32)?;
+    part(rt, payload, row[2], 32)
 }
 
 fn show_packet(rt: &impl Print, packet_type: u8, payload: &[u8], row: [u64; 16]) -> io::Result<()> {
-    match form(packet_type) {
-        0 => version(rt, payload, row),
-        1 => Ok(()),
-        2 => case_lines::number(rt, row[1]),
-        5 => two(rt, row),
-        6 => listed(rt, payload, row),
-        9 => locator(rt, payload, row),
-        11 => listed(rt, payload, row),
-        15 => reject(rt, payload, row),
-        21 => case_lines::number(rt, row[1]),
-        22 => two(rt, row),
-        24 => getblocktxn(rt, payload, row),
-        26 => getproof(rt, payload, row),
-        _ => case_lines::part(rt, payload, row[1], row[2]),
+    match PacketType::from(packet_type) {
+        PacketType::Version => version(rt, payload, row),
+        PacketType::Verack
+        | PacketType::GetAddr
+        | PacketType::SendHeaders
+        | PacketType::Mempool
+        | PacketType::FilterClear => Ok(()),
+        PacketType::Ping | PacketType::Pong | PacketType::FeeFilter => number(rt, row[1]),
+        PacketType::Addr | PacketType::SendCmpct => numbers(rt, &row[1..3]),
+        PacketType::Inv | PacketType::GetData | PacketType::NotFound | PacketType::Headers => {
+            listed(rt, payload, row)
+        }
+        PacketType::GetBlocks | PacketType::GetHeaders => locator(rt, payload, row),
+        PacketType::Reject => reject(rt, payload, row),
+        PacketType::GetBlockTxn => getblocktxn(rt, payload, row),
+        PacketType::GetProof => getproof(rt, payload, row),
+        _ => part(rt, payload, row[1], row[2]),
     }
 }
 
 fn ask_packet(rt: &impl Print, packet_type: u8, payload: &[u8], out: &mut [u8]) -> io::Result<()> {
     let mut row = [0u64; 16];
-    let no_terms = [0u64; 0];
-    hns_ffi_packets::hns_read_packet(&no_terms, packet_type, payload, out, &mut row);
-    if row[0] == 0 {
-        case_lines::number(rt, 0)?;
-        show_packet(rt, packet_type, payload, row)
-    } else {
-        case_lines::refusal(rt, row)
-    }
+    hns_ffi_packets::hns_read_packet(&[], packet_type, payload, out, &mut row);
+    answered(rt, row, || show_packet(rt, packet_type, payload, row))
 }
 
 fn address(rt: &impl Print, payload: &[u8], row: [u64; 16]) -> io::Result<()> {
-    case_lines::five(rt, row[1], row[2], row[3], row[4], row[5])?;
-    case_lines::part(rt, payload, row[6], 33)
+    numbers(rt, &row[1..6])?;
+    part(rt, payload, row[6], 33)
 }
 
 fn inventory(rt: &impl Print, payload: &[u8], row: [u64; 16]) -> io::Result<()> {
-    case_lines::number(rt, row[1])?;
-    case_lines::part(rt, payload, row[2], 32)
+    number(rt, row[1])?;
+    part(rt, payload, row[2], 32)
 }
 
 fn show_item(rt: &impl Print, packet_type: u8, payload: &[u8], row: [u64; 16]) -> io::Result<()> {
-    match form(packet_type) {
-        5 => address(rt, payload, row),
-        6 => inventory(rt, payload, row),
-        9 => case_lines::part(rt, payload, row[1], 32),
-        11 => case_lines::part(rt, payload, row[1], 236),
-        _ => case_lines::number(rt, row[1]),
+    match PacketType::from(packet_type) {
+        PacketType::Addr => address(rt, payload, row),
+        PacketType::Inv | PacketType::GetData | PacketType::NotFound => inventory(rt, payload, row),
+        PacketType::GetBlocks | PacketType::GetHeaders => part(rt, payload, row[1], 32),
+        PacketType::Headers => part(rt, payload, row[1], 236),
+        _ => number(rt, row[1]),
     }
 }
 
 fn ask_item(rt: &impl Print, packet_type: u8, payload: &[u8], place: usize) -> io::Result<()> {
     let mut row = [0u64; 16];
-    let no_terms = [0u64; 0];
-    hns_ffi_packets::hns_item(&no_terms, packet_type, payload, place, &mut row);
-    if row[0] == 0 {
-        case_lines::number(rt, 0)?;
-        show_item(rt, packet_type, payload, row)
-    } else {
-        case_lines::refusal(rt, row)
-    }
+    hns_ffi_packets::hns_item(&[], packet_type, payload, place, &mut row);
+    answered(rt, row, || show_item(rt, packet_type, payload, row))
 }
 
 // All indexes, and the numbers that were lent for them.
 fn ask_indexes(rt: &impl Print, payload: &[u8]) -> io::Result<()> {
     let mut row = [0u64; 16];
     let mut out = [170u64; 5];
-    let no_terms = [0u64; 0];
-    hns_ffi_packets::hns_indexes(&no_terms, payload, &mut out, &mut row);
+    hns_ffi_packets::hns_indexes(&[], payload, &mut out, &mut row);
     case_lines::count(rt, row)?;
-    case_lines::five(rt, out[0], out[1], out[2], out[3], out[4])
+    numbers(rt, &out)
 }
 
 // All numbers of items, and those that were lent for them.
 fn ask_numbers(rt: &impl Print, packet_type: u8, payload: &[u8]) -> io::Result<()> {
     let mut row = [0u64; 16];
     let mut out = [170u64; 10];
-    let no_terms = [0u64; 0];
-    hns_ffi_packets::hns_item_numbers(&no_terms, packet_type, payload, &mut out, &mut row);
+    hns_ffi_packets::hns_item_numbers(&[], packet_type, payload, &mut out, &mut row);
     case_lines::count(rt, row)?;
-    case_lines::five(rt, out[0], out[1], out[2], out[3], out[4])?;
-    case_lines::five(rt, out[5], out[6], out[7], out[8], out[9])
+    numbers(rt, &out)
 }
 
 fn ask_all(rt: &impl Print, packet_type: u8, payload: &[u8]) -> io::Result<()> {
-    if packet_type == 24 {
-        ask_indexes(rt, payload)
-    } else {
-        ask_numbers(rt, packet_type, payload)
+    match PacketType::from(packet_type) {
+        PacketType::GetBlockTxn => ask_indexes(rt, payload),
+        _ => ask_numbers(rt, packet_type, payload),
     }
 }
 
 // What stands at the place that the finder answers: document 01 leaves open which place it is.
 fn show_found(rt: &impl Print, packet_type: u8, payload: &[u8], place: u64) -> io::Result<()> {
     let mut row = [0u64; 16];
-    let no_terms = [0u64; 0];
-    hns_ffi_packets::hns_item(&no_terms, packet_type, payload, place as usize, &mut row);
-    case_lines::part(rt, payload, row[2], 32)
+    hns_ffi_packets::hns_item(&[], packet_type, payload, place as usize, &mut row);
+    part(rt, payload, row[2], 32)
 }
 
 fn ask_find(rt: &impl Print, packet_type: u8, payload: &[u8], hash: &[u8]) -> io::Result<()> {
     let mut row = [0u64; 16];
-    let no_terms = [0u64; 0];
-    hns_ffi_packets::hns_find(&no_terms, packet_type, payload, hash, &mut row);
+    hns_ffi_packets::hns_find(&[], packet_type, payload, hash, &mut row);
     case_lines::count(rt, row)?;
-    if (row[0] == 0) & (row[1] == 1) {
-        show_found(rt, packet_type, payload, row[2])?;
+    // A row of the C interface: 0, and 1 where the hash stands somewhere.
+    if let [0, 1, place, ..] = row {
+        show_found(rt, packet_type, payload, place)?;
     }
     Ok(())
 }
 
-// The output that is lent for a text is shown after the packet.
-fn ask_lent(rt: &impl Print, packet_type: u8, payload: &[u8], out: &mut [u8]) -> io::Result<()> {
-    ask_packet(rt, packet_type, payload, out)?;
-    case_lines::hex_or_none(rt, out)
-}
-
+// The output that is lent for a text is shown after the packet. Nothing is asked if it is longer than there is room for.
 fn lend(rt: &impl Print, packet_type: u8, room: usize, payload: &[u8]) -> io::Result<()> {
-    let mut out = [0xaau8; OUT_ROOM];
-    if room <= OUT_ROOM {
-        ask_lent(rt, packet_type, payload, &mut out[..room])?;
+    let mut lent = [0xaau8; OUT_ROOM];
+    if let Some(out) = lent.get_mut(..room) {
+        ask_packet(rt, packet_type, payload, out)?;
+        hex_or_none(rt, out)?;
     }
     Ok(())
 }
 
+// The kinds are bytes of the cases: an enum would name each call once more, and be no plainer.
 fn ask(rt: &impl Print, q: Asked, bytes: &[u8]) -> io::Result<()> {
-    let kind = q.kind;
     let n = q.a as usize;
-    rt.print(kind)?;
-    match kind {
+    print!(rt; "{}", q.kind)?;
+    match q.kind {
         24 => lend(rt, q.about, n, bytes),
         25 => ask_item(rt, q.about, bytes, n),
         26 => ask_all(rt, q.about, bytes),
@@ -239,43 +203,11 @@ fn ask(rt: &impl Print, q: Asked, bytes: &[u8]) -> io::Result<()> {
     }
 }
 
-fn answer(rt: &impl Print, case: &[u8], long: &mut [u8]) -> io::Result<()> {
-    let put = case_input::put_question(case, long);
-    ask(
-        rt,
-        case_input::question(case),
-        hns_encoding::first(long, put.size),
-    )?;
-    case_input::clear_long(put, long);
-    Ok(())
-}
-
-fn run(
-    rt: &impl Print,
-    input: &mut impl Read,
-    buffer: &mut [u8],
-    case: &mut [u8],
-    long: &mut [u8],
-) -> io::Result<()> {
-    let mut lines = case_input::first_case(input, buffer, case);
-    while 0 < lines.left {
-        answer(rt, hns_encoding::first(case, lines.size), long)?;
-        case_lines::end_line(rt)?;
-        lines = case_input::next_case(lines, input, buffer, case);
-    }
-    Ok(())
-}
-
 fn main(rt: HostRuntime) -> io::Result<()> {
-    let mut input = rt.stdin();
     let mut buffer = [0u8; 65_536];
     let mut case = [0u8; ROOM];
     let mut long = [0u8; LONG_ROOM];
-    run(
-        &rt,
-        &mut input,
-        &mut buffer,
-        &mut case,
-        case_input::whole(&mut long),
-    )
+    case_input::run(&rt, &mut rt.stdin(), &mut buffer, &mut case, |case| {
+        case_input::with_question(case, &mut long, |q, bytes| ask(&rt, q, bytes))
+    })
 }
