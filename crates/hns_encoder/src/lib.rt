@@ -1,4 +1,4 @@
-//! Puts by a cursor beside a lent output.
+//! Puts by a cursor beside a lent output: the project's rule for outputs, which C lends as a slice and a place.
 #![tactic(auto)]
 
 ghost use Rattle.std.specs.Prelude.{◌≡◌, ◌∷◌, []};
@@ -54,13 +54,20 @@ impl Encoder {
         }
     }
 
-    // One put for each type, since the conversion is the type's own method.
+    // No array: a byte is never cut, and put_compact_size is faster where its first byte calls nothing.
+    #[tactic(auto, using(hns_encoding::proofs::Puts::byte_fits, hns_encoding::proofs::Puts::byte_past))]
     pub fn put_u8(self, out: &mut [u8], value: u8) -> Encoder
         ensures { Put out.old self.position (value ∷ []) out.new result.position }
     {
-        self.put_array(out, [value])
+        if self.position < out.len() {
+            out[self.position] = value;
+        }
+        Encoder {
+            position: self.position.saturating_add(1),
+        }
     }
 
+    // The Rust's puts of a number: one for each type, since the conversion is the type's own method.
     pub fn put_u16_le(self, out: &mut [u8], value: u16) -> Encoder
         ensures { Put out.old self.position (le_bytes 2 value) out.new result.position }
     {

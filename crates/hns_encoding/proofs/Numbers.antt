@@ -6,6 +6,8 @@ use mathlib.Core.Logic.{◌⊎◌, inl, inr}
 use native.Mathlib.Omega.{arith}
 use native.Mathlib.Nat.{pow-suc, div-div-eq-div-mul, mul_comm, mod-add-div}
 use native.Mathlib.Decide.{dec_lt}
+use lib.Pow.{pow-add}
+use lib.Arith.{digits_lt}
 use lib.ListN.{length, take, drop, get_or, replicate, length-drop}
 use lib.Seq.{take-add, drop-drop, length-take-le, drop-cons}
 use Rattle.hns_encoding.specs.Bytes.{le, le_bytes, Bytes, none, byte, part}
@@ -126,6 +128,12 @@ part_bytes s bs p n h = rw (part_length s p n h) at (le_bytes_le (bytes_take n (
 -- a number in two parts
 pub le_part_add : (s : List ℕ) (p m n : ℕ) → m ≤ length s - p → le (part s p (m + n)) ≡ le (part s p m) + 256 ^ m * le (part s (p + m) n)
 le_part_add s p m n h = rw (part_add, le_append, part_length s p m h)
+
+-- two numbers of k bytes, one after the other, are one of twice as many
+pub halves : (k : ℕ) (s : List ℕ) (p : ℕ) {a b : ℕ} → k ≤ length s - p → (a ≡ le (part s p k)) × (a < 256 ^ k) → (b ≡ le (part s (p + k) k)) × (b < 256 ^ k)
+    → (a + 256 ^ k * b ≡ le (part s p (k + k))) × (a + 256 ^ k * b < 256 ^ (k + k))
+halves k s p h low high =
+    (rw (low.0, high.0) (sym (le_part_add s p k k h)), rw (pow-add 256 k k) (omega (arith, digits_lt {c = 256 ^ k} high.1 low.1)))
 
 -- a byte at a place
 pub byte_part : (s : List ℕ) (p : ℕ) → p < length s → part s p 1 ≡ get_or s p 0 ∷ []

@@ -145,6 +145,22 @@ put_stored {o} {p} {x} {at} {n} {k} {y} f g e same after =
 pub put_whole : {o : List ℕ} {p : ℕ} {x : List ℕ} {at k : ℕ} {y : List ℕ} {p' : ℕ} → at ≡ min p (length o) → length x ≤ length o - at → k ≡ length x → y ≡ x → p' ≡ p + length x → p' < 2 ^ 64 → Put o p x (put_mid at k o y) p'
 put_whole {o} {p} {x} f h e same after small = put_stored f (omega arith) e (same ∙ sym (take_all (length x) x (omega arith))) (omega arith)
 
+-- bytes to the front of as many
+pub front_all : (o x : List ℕ) → length o ≡ length x → {o' : List ℕ} → o' ≡ splice o 0 x → o' ≡ x
+front_all o x long e =
+    let start : 0 + length x ≡ length x = omega arith in
+    let none : drop (length x) o ≡ [] = drop_of_length-le o {i = length x} (omega arith) in
+    e ∙ splice_fits o 0 x (omega arith) ∙ rw (start, none, append-nil)
+
+-- a byte is stored if there is room for it
+pub byte_fits : (o : List ℕ) (p b : ℕ) {p' : ℕ} → p' ≡ min (p + 1) (2 ^ 64 - 1) → Put o p (b ∷ []) (set o p b) p'
+unfolding advance
+byte_fits o p b e = record { next = e; bytes = sym (splice_byte o p b) }
+
+pub byte_past : (o : List ℕ) (p b : ℕ) → length o ≤ p → {p' : ℕ} → p' ≡ min (p + 1) (2 ^ 64 - 1) → Put o p (b ∷ []) o p'
+unfolding advance
+byte_past o p b h e = record { next = e; bytes = sym (splice_past o p (b ∷ []) h) }
+
 -- nothing is put: the start of a loop
 pub put_none : (o : List ℕ) (p : ℕ) → p < 2 ^ 64 → Put o p [] o p
 unfolding advance

@@ -7,8 +7,9 @@ use mathlib.Core.Logic.{⊎_elim}
 use mathlib.Core.Bool.{Bool, true, false}
 use lib.Dec.{leb, eqb}
 use lib.ListN.{length, get_or, replicate}
-use lib.Seq.{take_all}
+use lib.Seq.{take_all, take-take, drop-drop}
 use Rattle.std.specs.Prelude.{take, drop}
+use Rattle.std.proofs.lemmas.List.{drop-take}
 use lib.ListN.{length-drop, length-replicate}
 use borrow.Author.Tests.{le-leb, lt-leb, lt-ltb, le-ltb, eq-eqb, ne_eqb}
 use Rattle.std.specs.Prelude.{Result, Ok, Err}
@@ -82,6 +83,20 @@ array_there n s p h e = e ∙ sym (raw_there n s p (omega (arith, length-drop p 
 
 pub array_missing : (n : ℕ) (s : List ℕ) (p : ℕ) → length (drop p s) < n → replicate n 0 ≡ raw_at n s p
 array_missing n s p h = raw_missing n s p (omega (arith, length-drop p s))
+
+-- bytes of a part are bytes of the whole
+take_inside : (a m n : ℕ) (l : List ℕ) → a + m ≤ n → take m (drop a (take n l)) ≡ take m (drop a l)
+take_inside a m n l h =
+    let split : n ≡ a + (n - a) = omega arith in
+    ap (λ (k : ℕ). take m (drop a (take k l))) split ∙ ap (take m) (drop-take a (n - a) l) ∙ take-take m (n - a) (drop a l) (omega arith)
+
+pub part_inside : (s : List ℕ) (p w q n : ℕ) → q + n ≤ w → part (part s p w) q n ≡ part s (p + q) n
+part_inside s p w q n k = take_inside q n w (drop p s) k ∙ ap (take n) (drop-drop q p s)
+
+pub number_inside : (s : List ℕ) (p w q n : ℕ) → w ≤ length s - p → q + n ≤ w → number_at n (part s p w) q ≡ number_at n s (p + q)
+number_inside s p w q n h k =
+    let long = part_length s p w h in
+    number_there n (part s p w) q (omega arith) ∙ ap le (part_inside s p w q n k) ∙ sym (number_there n s (p + q) (omega arith))
 
 -- a read that fits, and one that does not
 pub array_read : (n : ℕ) (s : List ℕ) (p : ℕ) {a : List ℕ} → n ≤ length (drop p s) → a ≡ take n (drop p s) → Ok (a, p + n) ≡ result_of (bytes_at n s p)

@@ -1,4 +1,5 @@
 //! Little-endian wire encoding: reads on a slice and a place. A read answers its value and the place after it, or the refusal.
+//! Place beside slice, and not a slice that gets shorter: C lends them so, and a refusal names the place.
 #![tactic(auto)]
 
 ghost use Rattle.std.specs.Prelude.{◌≡◌, ◌-◌, ◌<◌, length, take, drop};
@@ -31,6 +32,18 @@ pub fn from_place(bytes: &[u8], at: usize) -> &[u8]
     ensures { result.now ≡ drop at bytes.now }
 {
     &bytes[at.min(bytes.len())..]
+}
+
+// The bytes to an output's front, as many as fit. A loop, which compiles to wide moves in place: `copy_from_slice` calls memmove,
+// which takes longer for millions of bytes (docs/SPEED.md).
+#[tactic(auto, using(crate::proofs::Puts::pasted))]
+pub fn put_front(out: &mut [u8], bytes: &[u8])
+    ensures { out.new ≡ splice out.old 0 bytes.now }
+{
+    let n = bytes.len().min(out.len());
+    for i in 0..n {
+        out[i] = bytes[i];
+    }
 }
 
 // The N bytes at a place, or zeros where they are not all there.
@@ -106,6 +119,7 @@ pub fn read_array<const N: usize>(
     }
 }
 
+// The Rust's four reads of a number: one for each type, since the conversion is the type's own method.
 #[tactic(auto, using(crate::proofs::Reading::ends_answer), unfolding(crate::specs::Bytes::le_at))]
 pub fn read_u8(input: &[u8], position: usize) -> Result<(u8, usize), Refusal>
     ensures { result ≡ result_of (le_at 1 input.now position) }
@@ -207,7 +221,7 @@ pub fn read_compact_sizes(input: &[u8], position: usize, values: &mut [u64]) -> 
     Sizes { count, next }
 }
 
-// A compact size of at most `limit`: 7 carries the code of its field.
+// A compact size of at most `limit`: 7 carries the code of its field, a number, since a narrower type would ask more of callers.
 #[tactic(auto, using(crate::proofs::Reading::ends_answer, crate::proofs::Reading::count_fits, crate::proofs::Reading::count_over), unfolding(crate::specs::Compact::count_at))]
 pub fn read_count(
     input: &[u8],
@@ -239,7 +253,7 @@ pub fn read_compact_usize(
     read_count(input, position, maximum as u64, 0)
 }
 
-// The Rust's read_bounded_vec: n bytes, of at most `maximum`.
+// The Rust's read_bounded_vec, which has no field code either: n bytes, of at most `maximum`.
 #[tactic(auto, using(crate::proofs::Reading::bounded_fits, crate::proofs::Reading::bounded_over))]
 pub fn read_bounded(
     input: &[u8],

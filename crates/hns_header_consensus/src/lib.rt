@@ -51,7 +51,7 @@ impl From<&[u8; HEADER_SIZE]> for Header {
     }
 }
 
-// A header at a place, and the place after it: one read of 236 bytes.
+// A header at a place, and the place after it: one read of 236 bytes. Slice and place are two, as in every read of hns_encoding.
 #[tactic(auto, using(crate::proofs::Headers::placed, crate::proofs::Headers::not_placed))]
 pub fn read_header(input: &[u8], position: usize) -> Result<(Header, usize), Refusal>
     ensures { result ≡ decoded_of (header_at input.now position) }
@@ -81,7 +81,7 @@ impl Header {
         Ok(Header::from(block))
     }
 
-    // The Rust's name for the 236 bytes.
+    // The Rust's name for the 236 bytes, put into an array as into any output: the layout stands once.
     pub fn encode(self) -> [u8; HEADER_SIZE]
         ensures { result ≡ write header (fields_of self) }
     {
@@ -90,6 +90,7 @@ impl Header {
         out
     }
 
+    // The cursor goes by value beside the lent output, as every put of hns_encoder has it.
     pub fn encode_to(self, encoder: Encoder, out: &mut [u8]) -> Encoder
         ensures { Put out.old encoder.position (write header (fields_of self)) out.new result.position }
     {

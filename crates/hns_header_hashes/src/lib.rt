@@ -1,4 +1,5 @@
-//! A header for callers in C and Rust: four numbers, and its hashes side by side (specs/Hashes.antt).
+//! A header for callers in C and Rust: four numbers, and its hashes side by side (specs/Hashes.antt). A place comes beside its slice, as
+//! C lends them.
 #![tactic(auto)]
 
 ghost use Rattle.std.specs.Prelude.{◌≡◌};
@@ -11,13 +12,16 @@ ghost use Rattle.hns_header_hashes.specs.Hashes.{hashes_of, hashes_kept, header_
 use hns_encoder::Encoder;
 use hns_header_consensus::{HEADER_SIZE, Header};
 
+// The bytes of seven hashes side by side.
+const HASHES_SIZE: usize = 216;
+
 // In the 236 bytes they stand in two runs, before version and bits and after, so two copies are enough.
 fn put_hashes(block: &[u8; HEADER_SIZE], out: &mut [u8])
     ensures { out.new ≡ splice out.old 0 (hashes_of (header_of (value_at header _ block.now 0))) }
 {
     Encoder::new()
-        .put_bytes(out, &block[12..196])
-        .put_bytes(out, &block[204..236]);
+        .put_array::<184>(out, hns_encoding::array_at(block, 12))
+        .put_array::<32>(out, hns_encoding::array_at(block, 204));
 }
 
 // The hashes of a header to the front of `out`; no byte changes where it is refused.
@@ -39,8 +43,9 @@ pub fn keep_hashes_at(input: &[u8], position: usize, out: &mut [u8])
     }
 }
 
-// A header from its parts; a hash that is not all there is zeros.
-pub fn header_from(nonce: u32, time: u64, hashes: &[u8], version: u32, bits: u32) -> Header
+// Inlined, so that no read of a whole block tests its length.
+#[inline(always)]
+fn header_of(nonce: u32, time: u64, hashes: &[u8], version: u32, bits: u32) -> Header
     ensures { result ≡ header_from nonce time hashes.now version bits }
 {
     Header {
@@ -55,5 +60,15 @@ pub fn header_from(nonce: u32, time: u64, hashes: &[u8], version: u32, bits: u32
         version,
         bits,
         mask: hns_encoding::array_at(hashes, 184),
+    }
+}
+
+// A header from its parts, one by one as C gives them; a hash that is not all there is zeros.
+pub fn header_from(nonce: u32, time: u64, hashes: &[u8], version: u32, bits: u32) -> Header
+    ensures { result ≡ header_from nonce time hashes.now version bits }
+{
+    match hashes.first_chunk::<HASHES_SIZE>() {
+        Some(block) => header_of(nonce, time, block, version, bits),
+        None => header_of(nonce, time, hashes, version, bits),
     }
 }

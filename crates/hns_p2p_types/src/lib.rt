@@ -57,6 +57,7 @@ pub enum PacketType {
     Unknown(u8),
 }
 
+// By hand, since Unknown carries its number: no cast of an enum gives it.
 impl From<PacketType> for u8 {
     ghost from_gives = { λ t n. n ≡ type_number t };
 
@@ -98,6 +99,7 @@ impl From<PacketType> for u8 {
     }
 }
 
+// A byte of the wire becomes a type: no derive makes it, since every other number is Unknown.
 impl From<u8> for PacketType {
     ghost from_gives = { λ n t. t ≡ type_of n };
 
@@ -139,7 +141,8 @@ impl From<u8> for PacketType {
     }
 }
 
-// Whether a reject of this type carries a hash: a block's, a transaction's, a claim's or an airdrop's does.
+// Whether a reject of this type carries a hash: a block's, a transaction's, a claim's or an airdrop's does. By the byte, as a packet
+// has it: from a `PacketType` the check does not find the number back.
 #[tactic(auto, unfolding(crate::specs::Protocol::carries_hash))]
 pub fn carries_reject_hash(packet_type: u8) -> bool
     ensures { result ≡ carries_hash packet_type }
@@ -147,7 +150,8 @@ pub fn carries_reject_hash(packet_type: u8) -> bool
     matches!(packet_type, 13 | 14 | 28 | 29)
 }
 
-// Two's complement of a fee rate, as it stands in the payload: the library's conversion, by the document's definition.
+// Two's complement of a fee rate, as it stands in the payload: the library's conversion, by the document's definition. No From: the
+// library has none between these types.
 #[tactic(auto, using(crate::proofs::Signed::bits_same))]
 pub fn signed_bits(rate: i64) -> u64
     ensures { result ≡ signed_bits rate }
@@ -166,6 +170,7 @@ pub enum InventoryKind {
     Unknown(u32),
 }
 
+// By hand for the same reason as a packet's type, and so is the way back.
 impl From<InventoryKind> for u32 {
     ghost from_gives = { λ k n. n ≡ kind_number k };
 
@@ -200,14 +205,14 @@ impl From<u32> for InventoryKind {
     }
 }
 
-// Bytes of the payload: where they begin, and how many.
-#[derive(Clone, Copy, Debug, PartialEq, Eq)]
+// Bytes of the payload: where they begin, and how many. A place and no slice, here and in what follows: a row for C takes numbers.
+#[derive(Clone, Copy, Debug, Default, PartialEq, Eq)]
 pub struct Span {
     pub start: usize,
     pub length: usize,
 }
 
-// Items under a count: how many, and where the first one begins.
+// Items under a count: how many, and where the first one begins. Apart from Span: a count of records, not of bytes.
 #[derive(Clone, Copy, Debug, PartialEq, Eq)]
 pub struct Items {
     pub count: usize,
@@ -244,7 +249,7 @@ pub struct LocatorPacket {
     pub stop: usize,
 }
 
-// The hash is 32 bytes of the payload from a place on, if there is one.
+// The hash is 32 bytes of the payload from a place on, if there is one. The message is a byte, as the payload has it.
 #[derive(Clone, Copy, Debug, PartialEq, Eq)]
 pub struct RejectPacket {
     pub message: u8,
@@ -265,7 +270,7 @@ pub struct CompactBlockRequest {
     pub indexes: Items,
 }
 
-// The packet that a payload reads as.
+// The packet that a payload reads as. A type that is unknown stays the byte that it is.
 #[derive(Clone, Copy, Debug, PartialEq, Eq)]
 pub enum Packet {
     Version(VersionPacket),
@@ -301,7 +306,8 @@ pub enum Packet {
     Unknown { packet_type: u8, payload: Span },
 }
 
-// An item under a count, fetched by its place in the list: numbers, and places of the payload.
+// An item under a count, fetched by its place in the list: numbers, and places of the payload. A kind is the wire's number, as
+// a row for C has it, and `InventoryKind::from` names it.
 #[derive(Clone, Copy, Debug, PartialEq, Eq)]
 pub enum Item {
     Address(NetAddress),

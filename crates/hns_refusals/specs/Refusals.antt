@@ -1,5 +1,6 @@
 -- The refusals of documents 01 and 02, one definition for each row of the table: the number, then values a, b, c. 0 stands where the documents name no value.
-use Rattle.std.specs.Prelude.{ℕ, List, [], ◌∷◌, Result}
+use Rattle.std.specs.Prelude.{ℕ, List, [], ◌∷◌, ◌++◌, Result}
+use Rattle.std.specs.Fmt.{decimal}
 use Rattle.hns_refusals.specs.declared.Refusal.{Refusal}
 use Rattle.hns_refusals.specs.declared.Refusal.TheVariants as R
 use Rattle.hns_refusals.specs.Limits.{max_payload, max_stream, max_indexes}
@@ -147,6 +148,15 @@ values R.NoItem = 0 ∷ 0 ∷ 0 ∷ []
 values R.TallyFull = 0 ∷ 0 ∷ 0 ∷ []
 values R.NoRole = 0 ∷ 0 ∷ 0 ∷ []
 values R.NotGranted = 0 ∷ 0 ∷ 0 ∷ []
+
+-- numbers in decimal, a space before each
+abbrev pub spaced : List ℕ → List ℕ
+spaced [] = []
+spaced (v ∷ vs) = 32 ∷ (decimal v ++ spaced vs)
+
+-- how it is printed: its number, then its values
+abbrev pub printed : Refusal → List ℕ
+printed r = decimal (number r) ++ spaced (values r)
 
 -- codes of fields, for value c
 abbrev pub address_field : ℕ

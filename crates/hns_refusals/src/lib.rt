@@ -1,13 +1,13 @@
 //! The table of refusals of documents 01 and 02: the error of every call of the repository.
 #![tactic(auto)]
 
-ghost use Rattle.std.specs.Prelude.{◌≡◌};
-ghost use Rattle.hns_refusals.specs.Refusals.{number, values};
+ghost use Rattle.std.specs.Prelude.{◌≡◌, Some};
+ghost use Rattle.hns_refusals.specs.Refusals.{number, values, printed};
 
 use std::error::Error;
 use std::fmt;
 
-// The codes of fields that a refusal names.
+// The codes of fields that a refusal names. Numbers and no enum: a read takes any code, and an enum would ask more of its caller.
 pub const ADDRESS_FIELD: u64 = 1;
 
 pub const INVENTORY_FIELD: u64 = 2;
@@ -40,10 +40,11 @@ pub enum Refusal {
     TrailingBytes {
         remaining: usize,
     },
-    // A frame of another network; the magics as words.
+    // A frame of another network; the magics as words, but of 64 bits as every value is: a half of a value's place would keep
+    // what a read answers out of registers.
     MagicMismatch {
-        expected: u32,
-        found: u32,
+        expected: u64,
+        found: u64,
     },
     // A payload over 8,000,000 bytes.
     PayloadTooLarge {
@@ -148,7 +149,7 @@ impl Refusal {
             Refusal::UnexpectedEnd { offset, missing } => [offset as u64, missing as u64, 0],
             Refusal::NotShortest { bits } => [bits, 0, 0],
             Refusal::TrailingBytes { remaining } => [remaining as u64, 0, 0],
-            Refusal::MagicMismatch { expected, found } => [expected as u64, found as u64, 0],
+            Refusal::MagicMismatch { expected, found } => [expected, found, 0],
             Refusal::PayloadTooLarge { actual } => [actual as u64, 8_000_000, 0],
             Refusal::StreamTooLarge { total } => [total as u64, 16_000_018, 0],
             Refusal::OverLimit {
@@ -177,6 +178,8 @@ impl Refusal {
 
 // The row: number and values.
 impl fmt::Display for Refusal {
+    ghost output = { λ refusal. Some (printed refusal) };
+
     fn fmt<W: fmt::Write>(&self, f: &mut fmt::Formatter<W>) -> fmt::Result {
         let [a, b, c] = self.values();
         write!(f, "{} {a} {b} {c}", self.number())

@@ -7,5 +7,5 @@ use Rattle.hns_header_hashes.proofs.put_hashes.Goals as goal
 
 pub returns : goal.returns
 returns c =
-    let both = then (omega arith) (from_start c.new.ensures c.put_bytes.ensures) c.put_bytes-2.ensures in
-    both.bytes ∙ ap (splice c.args.out.now 0) (two_runs c.args.block.now)
+    let both = then (omega arith) (from_start c.new.ensures c.put_array.ensures) c.put_array-2.ensures in
+    both.bytes ∙ ap (splice c.args.out.now 0) (two_runs c.args.block.now (omega arith) c.array_at.ensures c.array_at-2.ensures)
