@@ -1,32 +1,19 @@
 -- Where the bytes end, width by width, and how answers follow from the tests that the code makes. Assumes nothing.
-use Prim.Native.Nat.{ℕ, ◌+◌, ◌-◌, ◌≤◌, ◌<◌}
+use Prim.Native.Nat.{ℕ, ◌-◌, ◌≤◌, ◌<◌}
 use mathlib.Core.Path.{◌≡◌, refl, ap}
 use mathlib.Core.List.{List}
 use native.Mathlib.Omega.{arith}
-use native.Mathlib.Numerals.{add-one}
-use lib.ListN.{length, drop, get_or, drop_of_length-le}
-use lib.Seq.{drop-cons}
+use lib.ListN.{length}
 use borrow.Author.Tests.{le-leb, lt-leb}
 use Rattle.std.specs.Prelude.{Ok, Err}
 use Rattle.hns_refusals.specs.declared.Refusal.{Refusal}
-use Rattle.hns_refusals.specs.Refusals.{Answer, unexpected_end}
+use Rattle.hns_refusals.specs.Refusals.{Answer}
 use Rattle.hns_encoding.specs.Bytes.{Outcome, got, stop, left, end_at}
 use Rattle.hns_encoding.specs.Format.{sum, short}
 use Rattle.hns_encoding.specs.Answers.{finished_of}
 use Rattle.hns_p2p_types.specs.declared.Packet.{Packet}
 use Rattle.hns_p2p_blocks.specs.Blocks.{gate}
 use Rattle.hns_p2p_blocks.specs.Helpers.{block_end, value_of}
-
--- the widths from the i-th on
-module _ (ws : List ℕ) (i p there : ℕ) (h : i < length ws) where
-  pub width_short : there < get_or ws i 0 → short (drop i ws) p there ≡ unexpected_end p (get_or ws i 0 - there)
-  width_short a = rw (drop-cons ws i 0 h, lt-leb (get_or ws i 0) there a)
-
-  pub width_fits : get_or ws i 0 ≤ there → short (drop i ws) p there ≡ short (drop (i + 1) ws) (p + get_or ws i 0) (there - get_or ws i 0)
-  width_fits a = rw (drop-cons ws i 0 h, le-leb (get_or ws i 0) there a, add-one)
-
-pub widths_end : (ws : List ℕ) (i p there : ℕ) → length ws ≤ i → short (drop i ws) p there ≡ unexpected_end p 0
-widths_end ws i p there h = rw (drop_of_length-le ws h)
 
 -- a test that was passed, and one that was refused
 pub passed : (o : Outcome (Unit {0})) {found : Answer (Unit {0})} {u : Unit {0}} → found ≡ finished_of o → found ≡ Ok u → (last : ℕ) × (o ≡ got tt last)

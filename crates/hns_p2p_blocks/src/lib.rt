@@ -1,5 +1,5 @@
 //! Fields of payloads without counts: each is one test of the length, and then numbers at known places. What is tested before
-//! the fields is not tested here.
+//! the fields is not tested here. A place stands beside the payload, as in every read: a refusal names it.
 #![tactic(auto)]
 
 ghost use Rattle.std.specs.Prelude.{◌≡◌};
@@ -117,21 +117,23 @@ pub fn read_getproof_fields(payload: &[u8]) -> Result<Packet, Refusal>
     Ok(Packet::GetProof(GetProofPacket { root: 0, key: 32 }))
 }
 
-// The address at a place; zeros where it is not all there. Its host kind is its byte 16.
+// The address at a place; zeros where it is not all there. One test of its 88 bytes: their length is known, so that no number
+// in them tests it. Its host kind is their byte 16.
 #[tactic(auto, using(crate::proofs::Addresses::address_short, crate::proofs::Addresses::address_there))]
 pub fn address_at(payload: &[u8], at: usize) -> NetAddress
     ensures { result ≡ address_in payload.now at }
 {
-    if remaining(payload, at) < NET_ADDRESS_SIZE {
+    let bytes = hns_encoding::from_place(payload, at);
+    let Some(block) = bytes.first_chunk::<NET_ADDRESS_SIZE>() else {
         return NetAddress::default();
-    }
-    let kept = u8_at(payload, at + 16) == 0;
+    };
+    let kept = u8_at(block, 16) == 0;
     NetAddress {
-        time: u64_at(payload, at),
-        services: u64::from(u32_at(payload, at + 8)),
-        ip_first: pick(kept, u64_at(payload, at + 17), 0),
-        ip_last: pick(kept, u64_at(payload, at + 25), 0),
-        port: u16_at(payload, at + 53),
+        time: u64_at(block, 0),
+        services: u64::from(u32_at(block, 8)),
+        ip_first: pick(kept, u64_at(block, 17), 0),
+        ip_last: pick(kept, u64_at(block, 25), 0),
+        port: u16_at(block, 53),
         key: at + 55,
     }
 }

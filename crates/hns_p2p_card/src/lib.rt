@@ -4,6 +4,7 @@
 ghost use Rattle.std.specs.Prelude.{◌≡◌};
 ghost use Rattle.hns_p2p_card.specs.Card.{card_row};
 
+// Two lengths, by the document's names: C's row has both.
 #[derive(Clone, Copy, Debug, PartialEq, Eq)]
 pub struct Row {
     pub least: usize,
@@ -106,7 +107,7 @@ const CARD: [Row; 30] = [
     RAW,
 ];
 
-// A type past the table is raw bytes.
+// A type past the table is raw bytes. A look-up by the type's byte, under the document's name, and no conversion.
 #[tactic(auto, unfolding(crate::specs::Card::card_row, crate::specs::Card::rows))]
 pub fn length_card(packet_type: u8) -> Row
     ensures { result ≡ card_row packet_type }

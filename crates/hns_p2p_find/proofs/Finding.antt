@@ -2,15 +2,20 @@
 use Prim.Native.Nat.{ℕ, zero, suc, ◌+◌, ◌*◌, ◌≤◌, ◌<◌}
 use mathlib.Core.Path.{◌≡◌, refl, sym, ap, ◌∙◌, subst}
 use mathlib.Core.List.{List, [], ◌∷◌, map}
-use mathlib.Core.Logic.{⊎_elim}
+use mathlib.Core.Bool.{Bool, true, false}
+use lib.Dec.{eqb, lit≤}
+use lib.Pointwise.{pointwise}
+use Rattle.std.specs.Cmp.Lexicographic.{same_text, other_text}
+use Rattle.std.specs.Bool.{Decides}
 use native.Mathlib.Omega.{arith}
 use lib.ListN.{length, get_or}
 use Rattle.std.specs.Prelude.{Option, Some, None, Ok, Err}
 use Rattle.hns_refusals.specs.declared.Refusal.{Refusal}
 use Rattle.hns_refusals.specs.Refusals.{Answer}
-use Rattle.hns_encoding.specs.Bytes.{part, Bytes, Outcome, got, stop}
+use Rattle.hns_encoding.specs.Bytes.{part, raw_at, Bytes, Outcome, got, stop}
 use Rattle.hns_encoding.specs.Format.{Format, Value, Fixed, values_at}
-use Rattle.hns_encoding.proofs.Numbers.{lt_or_ge}
+use Rattle.hns_encoding.proofs.Numbers.{part_length}
+use Rattle.hns_encoding.proofs.Reading.{raw_there, part_inside}
 use Rattle.hns_p2p_types.specs.Protocol.{inventory_item}
 use Rattle.hns_p2p_types.specs.declared.Items.{Items}
 use Rattle.hns_p2p_types.specs.declared.Listing.{Listing}
@@ -23,13 +28,20 @@ use Rattle.hns_p2p_items.specs.Listings.{listing_under, Records, Holds}
 use Rattle.hns_p2p_items.proofs.Held.{There, there, away}
 use Rattle.hns_p2p_items.proofs.Items.{records_many, nth_record, stands}
 use Rattle.hns_p2p_find.specs.Find.{Is, Has, Finds, NoneExactly, ItemThere, FoundItem}
-use Rattle.hns_p2p_find.specs.Helpers.{hash_at, NoneBelow, Scanned, Lowest, FindsLowest}
+use Rattle.hns_p2p_find.specs.Helpers.{hash_at, Scanned, Lowest, FindsLowest}
 
 -- ---- the scan
 
-pub none_next : (k : ℕ) (s : List ℕ) (first : ℕ) (h : List ℕ) → NoneBelow k s first h → (hash_at s first k ≡ h → ⊥) → NoneBelow (k + 1) s first h
-none_next k s first h before here j b e =
-    ⊎_elim (λ c. before j c e) (λ c. let same : j ≡ k = omega arith in here (ap (λ (n : ℕ). hash_at s first n) (sym same) ∙ e)) (lt_or_ge j k)
+same_test : (a b : List ℕ) (test : Bool) → test ≡ pointwise eqb a b → a ≡ b → test ≡ true
+same_test a b true g q = refl
+same_test a b false g q = absurd (other_text a b g q)
+
+pub same_bytes : (s : List ℕ) (p : ℕ) (h : List ℕ) → p + 32 ≤ length s → {n : ℕ} → n ≡ 32 → {there : List ℕ} → there ≡ raw_at 32 (part s p n) 0 → {test : Bool} → test ≡ pointwise eqb there h → Decides test (part s p 32 ≡ h)
+same_bytes s p h inside {n} all {there} e {test} g =
+    let long = part_length s p 32 (omega arith) in
+    let start : p + 0 ≡ p = omega arith in
+    let is : there ≡ part s p 32 = e ∙ ap (λ (k : ℕ). raw_at 32 (part s p k) 0) all ∙ raw_there 32 (part s p 32) 0 (omega arith) ∙ part_inside s p 32 0 32 (lit≤ tt) ∙ ap (λ (k : ℕ). part s k 32) start in
+    (λ t. sym is ∙ same_text there h (sym t ∙ g), λ q. same_test there h test g (is ∙ q))
 
 -- ---- items
 

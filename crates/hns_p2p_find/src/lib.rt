@@ -1,4 +1,4 @@
-//! Where a hash stands among the inventory items of a payload.
+//! Where a hash stands among the inventory items of a payload. Terms, type and payload come one by one, as `admit` takes them.
 #![tactic(auto)]
 
 ghost use Rattle.std.specs.Prelude.{◌≡◌, ◌+◌, ◌*◌, ◌≤◌, length};
@@ -9,25 +9,28 @@ ghost use Rattle.hns_p2p_items.specs.Items.{listed_under};
 ghost use Rattle.hns_p2p_find.specs.Find.{Finds};
 ghost use Rattle.hns_p2p_find.specs.Helpers.{FindsLowest, Scanned};
 
-use hns_p2p_types::Listing;
+use hns_p2p_types::{Items, Listing};
 use hns_refusals::Refusal;
 
-// Whether the hash stands at a place.
+// Whether the hash stands at a place. Its first eight bytes are one comparison, and most items differ there; the rest is compared
+// as an array, which is a few words, where slices are compared byte after byte.
 fn same_hash(payload: &[u8], at: usize, hash: [u8; 32]) -> bool
     requires { at + 32 ≤ length payload.now }
     ensures { Decides result (part payload.now at 32 ≡ hash) }
 {
-    payload[at..at + 32] == hash[..]
+    let there = &payload[at..at + 32];
+    hns_encoding::u64_at(there, 0) == hns_encoding::u64_at(&hash, 0)
+        && hns_encoding::array_at(there, 0) == hash
 }
 
-// The lowest place of an item with the hash, of `count` items from `first` on: kind 4, hash 32.
+// The lowest place of an item with the hash: kind 4, hash 32. No `find`: same_hash requires a place that a closure does not know.
 #[tactic(auto, unfolding(crate::specs::Helpers::Scanned))]
-fn scan(payload: &[u8], first: usize, count: usize, hash: [u8; 32]) -> Option<usize>
-    requires { first + count * 36 ≤ length payload.now }
-    ensures { Scanned payload.now first count hash result }
+fn scan(payload: &[u8], items: Items, hash: [u8; 32]) -> Option<usize>
+    requires { items.first + items.count * 36 ≤ length payload.now }
+    ensures { Scanned payload.now items.first items.count hash result }
 {
-    for place in 0..count {
-        if same_hash(payload, first + place * 36 + 4, hash) {
+    for place in 0..items.count {
+        if same_hash(payload, items.first + place * 36 + 4, hash) {
             return Some(place);
         }
     }
@@ -45,7 +48,7 @@ fn lowest(
 {
     let list = hns_p2p_items::listing(terms, packet_type, payload)?;
     match list {
-        Listing::Inventory(items) => Ok(scan(payload, items.first, items.count, hash)),
+        Listing::Inventory(items) => Ok(scan(payload, items, hash)),
         _ => Ok(None),
     }
 }

@@ -1,4 +1,5 @@
-//! All indexes of a getblocktxn payload at once, for callers that would fetch them one by one.
+//! All indexes of a getblocktxn payload at once, for callers that would fetch them one by one. Terms and payload come one by one, as
+//! C lends them (hns_p2p_admission); items and steps are places of the payload beside it, as there is no heap for copies.
 #![tactic(auto)]
 
 ghost use Rattle.std.specs.Prelude.{◌≡◌, ◌≤◌, length};
@@ -12,10 +13,10 @@ ghost use Rattle.hns_p2p_rights.specs.Terms.{terms_of};
 ghost use Rattle.hns_p2p_indexes.specs.Indexes.{stored_under};
 ghost use Rattle.hns_p2p_indexes.specs.Helpers.{Reads, StepThere, indexes_of};
 
-use hns_p2p_types::Listing;
+use hns_p2p_types::{Items, Listing};
 use hns_refusals::Refusal;
 
-// A difference and the place after it.
+// A difference and the place after it, which its first byte says.
 #[derive(Clone, Copy, Debug, PartialEq, Eq)]
 struct Step {
     difference: u64,
@@ -23,6 +24,7 @@ struct Step {
 }
 
 // A difference that reads is a byte alone, or two after 253: no other form is short enough.
+#[tactic(auto, using(crate::proofs::Storing::step_inside, crate::proofs::Storing::step_one, crate::proofs::Storing::step_two))]
 fn step_at(payload: &[u8], at: usize) -> Step
     requires { StepThere payload.now at }
     ensures { count_at max_index index_field payload.now at ≡ got result.difference result.after }
@@ -41,14 +43,15 @@ fn step_at(payload: &[u8], at: usize) -> Step
     }
 }
 
-// So many indexes, which read, to the output's front.
-fn store(payload: &[u8], count: usize, first: usize, out: &mut [u64])
-    requires { Reads count 0 payload.now first × (count ≤ length out.old) }
-    ensures { out.new ≡ splice out.old 0 (indexes_of (indexes_from count 0 payload.now first)) }
+// The indexes, which read, to the output's front; the caller tests their room once, for its refusal.
+#[tactic(auto, using(crate::proofs::Storing::store_start, crate::proofs::Storing::store_there, crate::proofs::Storing::store_small, crate::proofs::Storing::store_end))]
+fn store(payload: &[u8], items: Items, out: &mut [u64])
+    requires { Reads items.count 0 payload.now items.first × (items.count ≤ length out.old) }
+    ensures { out.new ≡ splice out.old 0 (indexes_of (indexes_from items.count 0 payload.now items.first)) }
 {
     let mut base: u64 = 0;
-    let mut next = first;
-    for i in 0..count {
+    let mut next = items.first;
+    for i in 0..items.count {
         let step = step_at(payload, next);
         let index = base + step.difference;
         out[i] = index;
@@ -57,7 +60,7 @@ fn store(payload: &[u8], count: usize, first: usize, out: &mut [u64])
     }
 }
 
-// The indexes of a getblocktxn payload to the front of `out`: the payload's refusal, then 16 with the places needed; what is
+// The indexes of a getblocktxn payload, type 24, to the front of `out`: the payload's refusal, then 16 with the places needed; what is
 // refused writes nothing.
 pub fn indexes(terms: &[u64], payload: &[u8], out: &mut [u64]) -> Result<usize, Refusal>
     ensures value { result ≡ (stored_under (terms_of terms.now) payload.now out.old).answer }
@@ -71,6 +74,6 @@ pub fn indexes(terms: &[u64], payload: &[u8], out: &mut [u64]) -> Result<usize, 
     if out.len() < count {
         return Err(Refusal::OutputShort { needed: count });
     }
-    store(payload, count, items.first, out);
+    store(payload, items, out);
     Ok(count)
 }

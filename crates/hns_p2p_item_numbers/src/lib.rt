@@ -1,93 +1,115 @@
 //! The numbers of all addresses or inventory items of a payload at once, for callers to whom a call for each item costs more
-//! than the item.
+//! than the item. Terms, type and payload are parameters of their own, as C lends them (hns_p2p_admission). Items are places of
+//! the payload beside them, as there is no heap for copies.
 #![tactic(auto)]
 
-ghost use Rattle.std.specs.Prelude.{◌≡◌, true, false, ◌+◌, ◌*◌, ◌≤◌, length};
+ghost use Rattle.std.specs.Prelude.{◌≡◌, refl, ℕ, List, ◌+◌, ◌*◌, ◌≤◌, length};
+ghost use Rattle.std.proofs.Common.{rules};
 ghost use Rattle.hns_refusals.specs.Limits.{max_payload};
 ghost use Rattle.hns_encoding.specs.Put.{splice};
 ghost use Rattle.hns_p2p_rights.specs.Terms.{terms_of};
 ghost use Rattle.hns_p2p_indexes.specs.Indexes.{fitted};
 ghost use Rattle.hns_p2p_item_numbers.specs.Numbers.{numbers_under};
-ghost use Rattle.hns_p2p_item_numbers.specs.Helpers.{bytes_each, numbers_each, numbers_at, numbers_from};
+ghost use Rattle.hns_p2p_item_numbers.specs.Helpers.{address_at, inventory_at, numbers_from};
 
 use hns_p2p_types::{Items, Listing, NET_ADDRESS_SIZE};
 use hns_refusals::Refusal;
 
-// How many bytes an item takes, and how many numbers it has: addresses, or inventory items.
-fn bytes_each(addresses: bool) -> usize
-    ensures { result ≡ bytes_each addresses }
-{
-    if addresses { NET_ADDRESS_SIZE } else { 36 }
+// Items of `BYTES` bytes, each of which is N numbers.
+trait Numbered<const N: usize> {
+    const BYTES: usize;
+
+    ghost BYTES: { ℕ };
+
+    ghost numbers: { List ℕ → ℕ → List ℕ };
+
+    // The numbers of the item that begins at a place, which is inside a payload, so that no place overflows. They are stored one
+    // by one: an array of them would be slower, as it is copied by way of the stack.
+    fn put(payload: &[u8], at: usize, row: &mut [u64])
+        requires { (length row.old ≡ N) × (at ≤ max_payload) }
+        ensures { row.new ≡ numbers payload.now at };
+
+    // Each has N numbers, which are no more than its bytes.
+    ghost long: { (s : List ℕ) (at : ℕ) → length (numbers s at) ≡ N };
+
+    ghost few: { N ≤ BYTES };
 }
 
-fn numbers_each(addresses: bool) -> usize
-    ensures { result ≡ numbers_each addresses }
-{
-    if addresses { 6 } else { 2 }
-}
+struct Addresses;
 
-fn put_address(payload: &[u8], at: usize, out: &mut [u64], to: usize)
-    requires { to + 6 ≤ length out.old }
-    ensures { out.new ≡ splice out.old to (numbers_at true payload.now at) }
-{
-    let address = hns_p2p_blocks::address_at(payload, at);
-    out[to] = address.time;
-    out[to + 1] = address.services;
-    out[to + 2] = address.ip_first;
-    out[to + 3] = address.ip_last;
-    out[to + 4] = address.port as u64;
-    out[to + 5] = address.key as u64;
-}
+impl Numbered<6> for Addresses {
+    const BYTES: usize = NET_ADDRESS_SIZE;
 
-fn put_inventory(payload: &[u8], at: usize, out: &mut [u64], to: usize)
-    requires { (to + 2 ≤ length out.old) × (at ≤ max_payload) }
-    ensures { out.new ≡ splice out.old to (numbers_at false payload.now at) }
-{
-    out[to] = hns_encoding::u32_at(payload, at) as u64;
-    out[to + 1] = (at + 4) as u64;
-}
+    ghost BYTES = { 88 };
 
-fn put_item(payload: &[u8], addresses: bool, at: usize, out: &mut [u64], to: usize)
-    requires { (to + numbers_each addresses ≤ length out.old) × (at ≤ max_payload) }
-    ensures { out.new ≡ splice out.old to (numbers_at addresses payload.now at) }
-{
-    if addresses {
-        put_address(payload, at, out, to);
-    } else {
-        put_inventory(payload, at, out, to);
+    ghost numbers = { address_at };
+
+    fn put(payload: &[u8], at: usize, row: &mut [u64]) {
+        let address = hns_p2p_blocks::address_at(payload, at);
+        row[0] = address.time;
+        row[1] = address.services;
+        row[2] = address.ip_first;
+        row[3] = address.ip_last;
+        row[4] = u64::from(address.port);
+        row[5] = address.key as u64;
     }
+
+    ghost long = { λ s at. refl };
+
+    ghost few = { Prim.search rules };
 }
 
-// So many items from a place on.
-fn put_items(payload: &[u8], addresses: bool, first: usize, count: usize, out: &mut [u64])
-    requires { (first + count * bytes_each addresses ≤ max_payload) × (count * numbers_each addresses ≤ length out.old) }
-    ensures { out.new ≡ splice out.old 0 (numbers_from addresses payload.now count first) }
+struct Inventory;
+
+impl Numbered<2> for Inventory {
+    const BYTES: usize = 36;
+
+    ghost BYTES = { 36 };
+
+    ghost numbers = { inventory_at };
+
+    fn put(payload: &[u8], at: usize, row: &mut [u64]) {
+        row[0] = u64::from(hns_encoding::u32_at(payload, at));
+        row[1] = (at + 4) as u64;
+    }
+
+    ghost long = { λ s at. refl };
+
+    ghost few = { Prim.search rules };
+}
+
+// So many items from a place on. `at` and `to` go on by two widths, so that no one iterator counts both.
+#[tactic(auto, using(crate::proofs::Storing::store_end))]
+fn put_items<const N: usize, T: Numbered<N>>(payload: &[u8], items: Items, out: &mut [u64])
+    requires { (items.first + items.count * T.BYTES ≤ max_payload) × (items.count * N ≤ length out.old) }
+    ensures { out.new ≡ splice out.old 0 (numbers_from T.numbers T.BYTES payload.now items.count items.first) }
 {
-    let bytes = bytes_each(addresses);
-    let numbers = numbers_each(addresses);
-    let mut at = first;
+    let mut at = items.first;
     let mut to = 0;
-    for _ in 0..count {
-        put_item(payload, addresses, at, out, to);
-        at += bytes;
-        to += numbers;
+    for _ in 0..items.count {
+        T::put(payload, at, &mut out[to..to + N]);
+        at += T::BYTES;
+        to += N;
     }
 }
 
 // All of them, where the output has room.
-fn put_all(payload: &[u8], addresses: bool, items: Items, out: &mut [u64]) -> Result<usize, Refusal>
-    requires { items.first + items.count * bytes_each addresses ≤ max_payload }
-    ensures value { result ≡ (fitted (numbers_from addresses payload.now items.count items.first) out.old).answer }
-    ensures out_after { out.new ≡ (fitted (numbers_from addresses payload.now items.count items.first) out.old).output }
+#[tactic(auto, using(crate::proofs::Storing::short_answer, crate::proofs::Storing::short_output, crate::proofs::Storing::fit_answer, crate::proofs::Storing::fit_output))]
+fn put_all<const N: usize, T: Numbered<N>>(
+    payload: &[u8],
+    items: Items,
+    out: &mut [u64],
+) -> Result<usize, Refusal>
+    requires { items.first + items.count * T.BYTES ≤ max_payload }
+    ensures value { result ≡ (fitted (numbers_from T.numbers T.BYTES payload.now items.count items.first) out.old).answer }
+    ensures out_after { out.new ≡ (fitted (numbers_from T.numbers T.BYTES payload.now items.count items.first) out.old).output }
 {
-    let count = items.count;
-    let first = items.first;
-    let numbers = count * numbers_each(addresses);
-    if out.len() < numbers {
-        return Err(Refusal::OutputShort { needed: numbers });
+    let needed = items.count * N;
+    if out.len() < needed {
+        return Err(Refusal::OutputShort { needed });
     }
-    put_items(payload, addresses, first, count, out);
-    Ok(numbers)
+    put_items::<N, T>(payload, items, out);
+    Ok(needed)
 }
 
 // The numbers of the items of a payload of a type side by side to the front of `out`, and how many they are: the payload's
@@ -101,9 +123,10 @@ pub fn item_numbers(
     ensures value { result ≡ (numbers_under (terms_of terms.now) packet_type payload.now out.old).answer }
     ensures out_after { out.new ≡ (numbers_under (terms_of terms.now) packet_type payload.now out.old).output }
 {
-    match hns_p2p_items::listing(terms, packet_type, payload)? {
-        Listing::Addresses(items) => put_all(payload, true, items, out),
-        Listing::Inventory(items) => put_all(payload, false, items, out),
+    let list = hns_p2p_items::listing(terms, packet_type, payload)?;
+    match list {
+        Listing::Addresses(items) => put_all::<6, Addresses>(payload, items, out),
+        Listing::Inventory(items) => put_all::<2, Inventory>(payload, items, out),
         _ => Ok(0),
     }
 }

@@ -1,4 +1,6 @@
-//! Items of a payload: which list stands under its count, and an item of that list by its place.
+//! Items of a payload: which list stands under its count, and an item of that list by its place. Terms, type and payload are
+//! parameters of their own, as C lends them (hns_p2p_admission); what stands in a payload is named by its place there, as there
+//! is no heap for copies.
 #![tactic(auto)]
 
 ghost use Rattle.std.specs.Prelude.{◌≡◌, ◌≤◌};
@@ -12,7 +14,7 @@ use hns_header_consensus::HEADER_SIZE;
 use hns_p2p_types::{Item, Items, Listing, NET_ADDRESS_SIZE, Packet};
 use hns_refusals::Refusal;
 
-// The list of a packet.
+// The list of a packet. No `From`: other fields of the packet are dropped.
 #[tactic(auto, unfolding(crate::specs::Listings::list_in))]
 fn list_in(packet: Packet) -> Listing
     ensures { result ≡ list_in packet }
@@ -36,7 +38,7 @@ pub fn listing(terms: &[u64], packet_type: u8, payload: &[u8]) -> Result<Listing
     hns_p2p_packet::read_payload(terms, packet_type, payload).map(list_in)
 }
 
-// The items of a list, none where it has none.
+// The items of a list, none where it has none. No `From`: what they are is dropped. No default either, as no list begins at 0.
 #[tactic(auto, unfolding(crate::specs::Helpers::items_in))]
 fn items_in(list: Listing) -> Items
     ensures { result ≡ items_in list }
@@ -62,7 +64,8 @@ fn index_in(payload: &[u8], first: usize, place: usize) -> Result<Item, Refusal>
     Ok(Item::Index(passed.last))
 }
 
-// The item at a place, of a list that is longer and begins at `first`.
+// The item at a place, of a list that is longer and begins at `first`. Both are below a payload's greatest length, so that no
+// place overflows; `item` alone knows that, from what was read, so a type for it would be made for one call.
 #[tactic(auto, unfolding(crate::specs::Helpers::item_in))]
 fn item_in(payload: &[u8], list: Listing, first: usize, place: usize) -> Result<Item, Refusal>
     requires { (first ≤ max_payload) × (place ≤ max_payload) }

@@ -27,7 +27,7 @@ use Rattle.hns_p2p_lists.specs.Lists.{ListStands}
 use Rattle.hns_p2p_lists.specs.Helpers.{records_at, list_at, made_of, whole_list, locator_of}
 use Rattle.hns_p2p_lists.proofs.Lists.{listed}
 
--- ---- how `read_list` answers
+-- ---- how `read` answers
 
 pub list_refused : (limit field : ℕ) (ws s : List ℕ) {read : Answer (ℕ × ℕ)} → read ≡ result_of (count_at limit field s 0) → {r : Refusal} → read ≡ Err r → Err r ≡ result_of (list_at limit field ws s 0)
 unfolding list_at

@@ -19,7 +19,7 @@ use hns_refusals::{
     ADDRESS_FIELD, HEADER_FIELD, INDEX_COUNT_FIELD, INVENTORY_FIELD, LOCATOR_FIELD, Refusal,
 };
 
-// The Rust's limits, as counts are compared with them.
+// The Rust's limits, as counts are compared with them. A code of a field is a number: it goes into a row for C.
 const ADDRESSES: u64 = MAX_ADDR_ITEMS as u64;
 
 const INVENTORY: u64 = MAX_INVENTORY_ITEMS as u64;
@@ -30,61 +30,79 @@ const HEADERS: u64 = MAX_HEADERS as u64;
 
 const INDEXES: u64 = MAX_COMPACT_BLOCK_TRANSACTIONS as u64;
 
-// A count of at most so many, and as many records of these widths, with the place after them. Where they do not all fit, the
-// bytes end in the record that begins last.
-#[tactic(auto, using(crate::proofs::Listed::list_refused, crate::proofs::Listed::list_product, crate::proofs::Listed::list_fits))]
-fn read_list(
-    payload: &[u8],
+// Records under a count: how many at most, the code of the count's field, and the widths of a record's fields with their sum, which
+// is given, so that none is made at run time.
+#[derive(Clone, Copy, Debug, PartialEq, Eq)]
+struct Records<'a> {
     limit: u64,
     field: u64,
-    widths: &[usize],
+    widths: &'a [usize],
     size: usize,
-) -> Result<(Items, usize), Refusal>
-    requires { (size ≡ sum widths.now) × (0 < size) × (limit * size < 2 ^ 64) }
-    ensures { result ≡ result_of (list_at limit field widths.now payload.now 0) }
-{
-    let (value, first) = hns_encoding::read_count(payload, 0, limit, field)?;
-    let count = value as usize;
-    let bytes = count * size;
-    let there = hns_encoding::remaining(payload, first);
-    if there < bytes {
-        let whole = there - there % size;
-        return Err(hns_p2p_blocks::ends_in(payload, widths, first + whole));
-    }
-    Ok((Items { count, first }, first + bytes))
+    ghost sums: { size ≡ sum widths.now },
+    ghost some: { 0 < size },
+    ghost counts: { limit * size < 2 ^ 64 },
 }
 
-// A list that is the whole payload.
-#[tactic(auto, using(crate::proofs::Listed::whole_refused, crate::proofs::Listed::whole_left, crate::proofs::Listed::whole_read))]
-fn read_whole(
-    payload: &[u8],
-    limit: u64,
-    field: u64,
-    widths: &[usize],
-    size: usize,
-) -> Result<Items, Refusal>
-    requires { (size ≡ sum widths.now) × (0 < size) × (limit * size < 2 ^ 64) }
-    ensures { result ≡ whole_list limit field widths.now payload.now }
-{
-    let (items, next) = read_list(payload, limit, field, widths, size)?;
-    hns_encoding::finish(payload, next)?;
-    Ok(items)
+impl<'a> Records<'a> {
+    // A count and as many records, with the place after them. Where they do not all fit, the bytes end in the record that begins last.
+    #[tactic(auto, using(crate::proofs::Listed::list_refused, crate::proofs::Listed::list_product, crate::proofs::Listed::list_fits))]
+    fn read(self, payload: &[u8]) -> Result<(Items, usize), Refusal>
+        ensures { result ≡ result_of (list_at self.entry.limit self.entry.field self.entry.widths.now payload.now 0) }
+    {
+        let Records {
+            limit,
+            field,
+            widths,
+            size,
+        } = self;
+        let (value, first) = hns_encoding::read_count(payload, 0, limit, field)?;
+        let count = value as usize;
+        let bytes = count * size;
+        let there = hns_encoding::remaining(payload, first);
+        if there < bytes {
+            let whole = there - there % size;
+            return Err(hns_p2p_blocks::ends_in(payload, widths, first + whole));
+        }
+        Ok((Items { count, first }, first + bytes))
+    }
+
+    // A list that is the whole payload.
+    #[tactic(auto, using(crate::proofs::Listed::whole_refused, crate::proofs::Listed::whole_left, crate::proofs::Listed::whole_read))]
+    fn read_whole(self, payload: &[u8]) -> Result<Items, Refusal>
+        ensures { result ≡ whole_list self.entry.limit self.entry.field self.entry.widths.now payload.now }
+    {
+        let (items, next) = self.read(payload)?;
+        hns_encoding::finish(payload, next)?;
+        Ok(items)
+    }
 }
 
 pub fn read_addr_fields(payload: &[u8]) -> Result<Packet, Refusal>
     ensures { result ≡ fields_of 5 payload.now }
 {
-    let widths = [8, 4, 4, 1, 36, 2, 33];
-    read_whole(payload, ADDRESSES, ADDRESS_FIELD, &widths, NET_ADDRESS_SIZE).map(Packet::Addr)
+    let addresses = Records {
+        limit: ADDRESSES,
+        field: ADDRESS_FIELD,
+        widths: &[8, 4, 4, 1, 36, 2, 33],
+        size: NET_ADDRESS_SIZE,
+    };
+    addresses.read_whole(payload).map(Packet::Addr)
 }
 
 // An inventory, of type 6, 7 or 8.
 fn read_inventory(payload: &[u8]) -> Result<Items, Refusal>
     ensures { result ≡ made_of (items_at 0) (to_end (read inventory) payload.now) }
 {
-    read_whole(payload, INVENTORY, INVENTORY_FIELD, &[4, 32], 36)
+    let inventory = Records {
+        limit: INVENTORY,
+        field: INVENTORY_FIELD,
+        widths: &[4, 32],
+        size: 36,
+    };
+    inventory.read_whole(payload)
 }
 
+// A reader for each type: one line over what the three share, with a contract that names the type; so are the two of a locator.
 pub fn read_inv_fields(payload: &[u8]) -> Result<Packet, Refusal>
     ensures { result ≡ fields_of 6 payload.now }
 {
@@ -108,7 +126,13 @@ pub fn read_notfound_fields(payload: &[u8]) -> Result<Packet, Refusal>
 fn read_locator(payload: &[u8]) -> Result<LocatorPacket, Refusal>
     ensures { result ≡ locator_of payload.now }
 {
-    let (locator, next) = read_list(payload, HASHES, LOCATOR_FIELD, &[32], 32)?;
+    let hashes = Records {
+        limit: HASHES,
+        field: LOCATOR_FIELD,
+        widths: &[32],
+        size: 32,
+    };
+    let (locator, next) = hashes.read(payload)?;
     let hash = hns_encoding::read_slice(payload, next, 32)?;
     hns_encoding::finish(payload, hash.end)?;
     let stop = hash.start;
@@ -130,7 +154,13 @@ pub fn read_getheaders_fields(payload: &[u8]) -> Result<Packet, Refusal>
 pub fn read_headers_fields(payload: &[u8]) -> Result<Packet, Refusal>
     ensures { result ≡ fields_of 11 payload.now }
 {
-    read_whole(payload, HEADERS, HEADER_FIELD, &[HEADER_SIZE], HEADER_SIZE).map(Packet::Headers)
+    let headers = Records {
+        limit: HEADERS,
+        field: HEADER_FIELD,
+        widths: &[HEADER_SIZE],
+        size: HEADER_SIZE,
+    };
+    headers.read_whole(payload).map(Packet::Headers)
 }
 
 #[tactic(auto, using(crate::proofs::Requests::txn_short, crate::proofs::Requests::txn_count, crate::proofs::Requests::txn_index, crate::proofs::Requests::txn_left))]

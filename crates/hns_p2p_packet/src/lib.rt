@@ -1,4 +1,5 @@
-//! Payloads of all 256 types, read as packets.
+//! Payloads of all 256 types, read as packets. Terms, type and payload are parameters of their own, as C lends them
+//! (hns_p2p_admission).
 #![tactic(auto)]
 
 ghost use Rattle.std.specs.Prelude.{◌≡◌, ◌≤◌, map, length};
@@ -12,7 +13,7 @@ ghost use Rattle.hns_p2p_packet.specs.Spans.{text_span};
 use hns_p2p_types::{Packet, PacketType, Span};
 use hns_refusals::Refusal;
 
-// The fields of a payload that was admitted.
+// The fields of a payload that was admitted. An arm is what its type is: its own reader, or all bytes as they stand.
 #[tactic(auto, using(crate::proofs::Fields::at_type, crate::proofs::Fields::unknown_fields), unfolding(hns_p2p_types::specs::Types::type_number))]
 fn read_fields(packet_type: u8, payload: &[u8]) -> Result<Packet, Refusal>
     ensures { result ≡ fields_of packet_type payload.now }
@@ -60,6 +61,7 @@ fn read_fields(packet_type: u8, payload: &[u8]) -> Result<Packet, Refusal>
 // The packet that a payload of a type reads as under terms, or the refusal. Its text stays where it is, so that 16 is none
 // here.
 #[tactic(auto, using(crate::proofs::Fields::packet_away, crate::proofs::Fields::packet_fields))]
+#[inline(always)]
 pub fn read_payload(terms: &[u64], packet_type: u8, payload: &[u8]) -> Result<Packet, Refusal>
     ensures { result ≡ packet_under (terms_of terms.now) packet_type payload.now }
 {
@@ -67,7 +69,8 @@ pub fn read_payload(terms: &[u64], packet_type: u8, payload: &[u8]) -> Result<Pa
     read_fields(packet_type, payload)
 }
 
-// Where the text of a packet stands; none for a packet that has no text.
+// Where the text of a packet stands; no bytes for a packet that has no text, so that it is put as any other. No `From`: the rest
+// of the packet is dropped.
 #[tactic(auto, unfolding(crate::specs::Spans::text_span))]
 fn text_span(packet: Packet) -> Span
     ensures { result ≡ text_span packet }
@@ -75,10 +78,7 @@ fn text_span(packet: Packet) -> Span
     match packet {
         Packet::Version(version) => version.agent,
         Packet::Reject(reject) => reject.reason,
-        _ => Span {
-            start: 0,
-            length: 0,
-        },
+        _ => Span::default(),
     }
 }
 

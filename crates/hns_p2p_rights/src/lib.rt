@@ -4,7 +4,7 @@
 //! `terms` are the numbers that a payload is read under. If there are none, nothing is named, and every type may be sent. Else
 //! the first is the role of a peer, and the next eight are the masks of roles 0 to 7: bits 0 to 29 are the known types, bit 30
 //! is every other type byte, and bits from 31 on are ignored. Fewer than nine numbers grant nothing. They stay a slice, as C
-//! lends them.
+//! lends them; a type around it would be made anew in each call of the interface.
 #![tactic(auto)]
 
 ghost use Rattle.std.specs.Prelude.{◌≡◌};
