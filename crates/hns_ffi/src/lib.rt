@@ -1,7 +1,7 @@
 //! The port for callers in C and Rust: numbers and byte slices in, rows of six numbers out.
 //!
 //! Names, parameters and rows are those of hns_ffi.h: one function for each call that C makes, with a row of numbers for its
-//! answer and a clause that says so.
+//! answer and a clause that says so. Slices come with a place or a count beside them, as C lends them.
 //!
 //! A library exports nothing, whatever its functions say: hns_ffi_c has the exports, and the test programs call this one.
 #![tactic(auto)]

@@ -1,7 +1,7 @@
 //! Frames and the stream for callers in C and Rust, beside hns_ffi: numbers and byte slices in, rows of six numbers out.
 //!
 //! Names, parameters and rows are those of hns_ffi.h: one function for each call that C makes, with a row of numbers for its
-//! answer and a clause that says so.
+//! answer and a clause that says so. Slices come with a place or a count beside them, as C lends them.
 //!
 //! A library exports nothing, whatever its functions say: hns_ffi_frames_c has the exports, and the test programs call this one.
 #![tactic(auto)]
@@ -9,7 +9,7 @@
 ghost use Rattle.std.specs.Prelude.{◌≡◌};
 ghost use Rattle.hns_p2p_frame.specs.Frame.{front, decode_exact, write_frame};
 ghost use Rattle.hns_p2p_frame.specs.Push as Push;
-ghost use Rattle.hns_p2p_frame.specs.Answers.{prefix_of, exact_of};
+ghost use Rattle.hns_p2p_frame.specs.Answers.{prefix_of, exact_of, pushed_of, delivered_of};
 ghost use Rattle.hns_p2p_tally.specs.Tallying.{push_tallying};
 ghost use Rattle.hns_rows.specs.Rows.{answered, network_of, prefix_row, exact_row, count_row, pushed_row, delivered_row};
 
@@ -55,7 +55,7 @@ pub extern "C" fn hns_push(
     output: &mut [u8],
     answer: &mut [u64],
 )
-    ensures answer_after { answer.new ≡ answered answer.old (pushed_row (Push.push (network_of network) store.old held input.now output.old).answer) }
+    ensures answer_after { answer.new ≡ answered answer.old (pushed_row (pushed_of (Push.push (network_of network) store.old held input.now output.old).answer)) }
     ensures store_after { store.new ≡ (Push.push (network_of network) store.old held input.now output.old).store }
     ensures output_after { output.new ≡ (Push.push (network_of network) store.old held input.now output.old).output }
 {
@@ -74,7 +74,7 @@ pub extern "C" fn hns_push_tallying(
     tally: &mut [u64],
     answer: &mut [u64],
 )
-    ensures answer_after { answer.new ≡ answered answer.old (delivered_row (push_tallying (network_of network) store.old held input.now output.old tally.old).answer) }
+    ensures answer_after { answer.new ≡ answered answer.old (delivered_row (delivered_of (push_tallying (network_of network) store.old held input.now output.old tally.old).answer)) }
     ensures store_after { store.new ≡ (push_tallying (network_of network) store.old held input.now output.old tally.old).store }
     ensures output_after { output.new ≡ (push_tallying (network_of network) store.old held input.now output.old tally.old).output }
     ensures tally_after { tally.new ≡ (push_tallying (network_of network) store.old held input.now output.old tally.old).tally }

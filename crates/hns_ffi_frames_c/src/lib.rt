@@ -5,7 +5,7 @@
 ghost use Rattle.std.specs.Prelude.{◌≡◌};
 ghost use Rattle.hns_p2p_frame.specs.Frame.{front, decode_exact, write_frame};
 ghost use Rattle.hns_p2p_frame.specs.Push as Push;
-ghost use Rattle.hns_p2p_frame.specs.Answers.{prefix_of, exact_of};
+ghost use Rattle.hns_p2p_frame.specs.Answers.{prefix_of, exact_of, pushed_of, delivered_of};
 ghost use Rattle.hns_p2p_tally.specs.Tallying.{push_tallying};
 ghost use Rattle.hns_rows.specs.Rows.{answered, network_of, prefix_row, exact_row, count_row, pushed_row, delivered_row};
 
@@ -46,7 +46,7 @@ pub extern "C" fn hns_push(
     output: &mut [u8],
     answer: &mut [u64],
 )
-    ensures answer_after { answer.new ≡ answered answer.old (pushed_row (Push.push (network_of network) store.old held input.now output.old).answer) }
+    ensures answer_after { answer.new ≡ answered answer.old (pushed_row (pushed_of (Push.push (network_of network) store.old held input.now output.old).answer)) }
     ensures store_after { store.new ≡ (Push.push (network_of network) store.old held input.now output.old).store }
     ensures output_after { output.new ≡ (Push.push (network_of network) store.old held input.now output.old).output }
 {
@@ -63,7 +63,7 @@ pub extern "C" fn hns_push_tallying(
     tally: &mut [u64],
     answer: &mut [u64],
 )
-    ensures answer_after { answer.new ≡ answered answer.old (delivered_row (push_tallying (network_of network) store.old held input.now output.old tally.old).answer) }
+    ensures answer_after { answer.new ≡ answered answer.old (delivered_row (delivered_of (push_tallying (network_of network) store.old held input.now output.old tally.old).answer)) }
     ensures store_after { store.new ≡ (push_tallying (network_of network) store.old held input.now output.old tally.old).store }
     ensures output_after { output.new ≡ (push_tallying (network_of network) store.old held input.now output.old tally.old).output }
     ensures tally_after { tally.new ≡ (push_tallying (network_of network) store.old held input.now output.old tally.old).tally }

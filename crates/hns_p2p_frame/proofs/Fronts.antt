@@ -2,7 +2,8 @@
 use Prim.Native.Nat.{ℕ, ◌+◌, ◌≤◌, ◌<◌}
 use mathlib.Core.Path.{◌≡◌, refl, ap₂}
 use mathlib.Core.List.{List, [], ◌∷◌, ◌++◌, append_assoc}
-use mathlib.Core.Bool.{Bool, true, false, ◌&&◌}
+use mathlib.Core.Bool.{Bool, true, false}
+use Rattle.std.proofs.lemmas.Bool.{and_parts}
 use native.Mathlib.Omega.{arith}
 use lib.ListN.{length, take, drop, length-drop, take-append-drop}
 use lib.Seq.{drop-drop, drop-cons}
@@ -19,17 +20,13 @@ use Rattle.hns_p2p_frame.specs.Conditions.{FrontIs, few, wrong, long, begun, ful
 
 -- ---- the same bytes
 
-both : (a b : Bool) → (a && b) ≡ true → (a ≡ true) × (b ≡ true)
-both true b e = (refl, e)
-both false b e = (e, cc)
-
 pub same_true : (xs ys : List ℕ) → same xs ys ≡ true → xs ≡ ys
 unfolding same
 same_true [] [] e = refl
 same_true [] (y ∷ ys) e = cc
 same_true (x ∷ xs) [] e = cc
 same_true (x ∷ xs) (y ∷ ys) e =
-    let p = both (eqb x y) (same xs ys) e in
+    let p = and_parts (eqb x y) (same xs ys) e in
     ap₂ (λ (a : ℕ) (l : List ℕ). a ∷ l) (eqb-true x y p.0) (same_true xs ys p.1)
 
 same_refl : (xs : List ℕ) → same xs xs ≡ true

@@ -5,5 +5,6 @@ pub mod Tests
 pub mod Answers
 pub mod Turns
 pub mod Settles
+pub mod Told
 pub mod Writes
 pub mod Exacts

@@ -1,4 +1,4 @@
--- What `take_in`, `settle` and `push` owe at each return, on plain lists. Assumes nothing.
+-- What `take_in`, `settle` and `push_held` owe at each return, on plain lists. Assumes nothing.
 use Prim.Native.Nat.{ℕ, ◌+◌, ◌-◌, ◌^◌, ◌≤◌, ◌<◌}
 use native.Mathlib.Nat.{min-eq_left}
 use native.Mathlib.Omega.{arith}
@@ -15,28 +15,27 @@ use Rattle.hns_encoding.specs.Put.{splice}
 use Rattle.hns_encoding.proofs.Numbers.{part_length, bytes_take, bytes_known}
 use borrow.Rule.Slice.PartMut.{put_mid}
 use Rattle.hns_p2p_frame.specs.declared.NetworkMagic.{NetworkMagic}
-use Rattle.hns_p2p_frame.specs.declared.Pushed.{Pushed}
-use Rattle.hns_p2p_frame.specs.declared.Pushed.TheVariants.{Accepted, Refused}
-use Rattle.hns_p2p_frame.specs.declared.Walk.{Walk}
+use Rattle.hns_p2p_frame.specs.declared.Frames.{Frames}
 use Rattle.hns_p2p_frame.specs.Frame.{Frame, encodings}
 use Rattle.hns_p2p_frame.specs.Walk.{Walked, stopped, refused, walk}
 use Rattle.hns_p2p_frame.specs.Push.{Result, needed, turned_away, settled, passing, admitted, push}
+use Rattle.hns_p2p_frame.specs.Answers.{pushed_of}
 use Rattle.hns_p2p_frame.specs.Helpers.{walk_of}
 use Rattle.hns_p2p_frame.proofs.Walks.{WalkCut, walk_cut}
 use Rattle.hns_p2p_frame.proofs.Tests.{Passed, over, large, unstored, no_room, fits, passing_is, passing_away, passing_taken, passed_is}
 use Rattle.hns_p2p_frame.proofs.Slices.{take_held, part_put}
 use Rattle.hns_p2p_frame.proofs.Turns.{counted}
 
--- what a function ensures that is to give this result
-abbrev pub Gives : Result → Pushed → List ℕ → List ℕ → Type 0
-Gives p r s o = record { value : r ≡ p.answer; store_after : s ≡ p.store; output_after : o ≡ p.output }
+-- what a function ensures that is to give this result, with the held count beside its answer
+abbrev pub Gives : Result → Answer Frames → ℕ → List ℕ → List ℕ → Type 0
+Gives p r h s o = record { value : r ≡ (pushed_of p.answer).delivered; held_after : h ≡ (pushed_of p.answer).held; store_after : s ≡ p.store; output_after : o ≡ p.output }
 
-gives : {p : Result} (q : Result) {r : Pushed} → p ≡ q → r ≡ q.answer → Gives p r q.store q.output
-gives q e a = record { value = rw e a; store_after = rw e; output_after = rw e }
+gives : {p : Result} (q : Result) {r : Answer Frames} {h : ℕ} → p ≡ q → r ≡ (pushed_of q.answer).delivered → h ≡ (pushed_of q.answer).held → Gives p r h q.store q.output
+gives q e a b = record { value = rw e a; held_after = rw e b; store_after = rw e; output_after = rw e }
 
 -- ---- once the input is appended
 
-walked_refused : (net : NetworkMagic) {r : Refusal} (v : Walked) {w : Answer Walk} → w ≡ walk_of net v → w ≡ Err r → v ≡ refused r
+walked_refused : (net : NetworkMagic) {r : Refusal} (v : Walked) {w : Answer Frames} → w ≡ walk_of net v → w ≡ Err r → v ≡ refused r
 unfolding walk_of
 walked_refused net (stopped fs rest) q e = cc
 walked_refused net (refused p) q e = cc
@@ -50,18 +49,18 @@ record Cuts (net : NetworkMagic) (n b : ℕ) (xs : List ℕ) (v : Walked) : Type
   size : length (encodings net frames) ≡ b
   all : encodings net frames ++ rest ≡ xs
 
-walked_stopped : (net : NetworkMagic) {n b : ℕ} (v : Walked) (xs : List ℕ) {w : Answer Walk} → WalkCut net xs v → w ≡ walk_of net v → w ≡ Ok (counted n b) → Cuts net n b xs v
+walked_stopped : (net : NetworkMagic) {n b : ℕ} (v : Walked) (xs : List ℕ) {w : Answer Frames} → WalkCut net xs v → w ≡ walk_of net v → w ≡ Ok (counted n b) → Cuts net n b xs v
 unfolding walk_of
 walked_stopped net {n} {b} (stopped fs rest) xs c q e =
     let same : counted (length fs) (length (encodings net fs)) ≡ counted n b = cc in
-    record { frames = fs; rest = rest; is = refl; count = ap (λ (w : Walk). w.frames) same; size = ap (λ (w : Walk). w.bytes) same; all = c.0 }
+    record { frames = fs; rest = rest; is = refl; count = ap (λ (w : Frames). w.frames) same; size = ap (λ (w : Frames). w.bytes) same; all = c.0 }
 walked_stopped net (refused r) xs c q e = absurd (cc)
 
 -- w is what the walk over the first t bytes of the store answered
-module _ (net : NetworkMagic) (s : List ℕ) (t : ℕ) (o : List ℕ) (fits : t ≤ length s) (known : (i : ℕ) → get_or s i 0 < 256) {w : Answer Walk} (walked : w ≡ walk_of net (walk net (take t s))) where
-  pub refuses : {r : Refusal} → w ≡ Err r → Gives (settled net (walk net (take t s)) s t o) (Refused r t) s o
-  unfolding settled
-  refuses {r} e = gives (settled net (refused r) s t o) (rw (walked_refused net (walk net (take t s)) walked e)) refl
+module _ (net : NetworkMagic) (s : List ℕ) (t : ℕ) (o : List ℕ) (fits : t ≤ length s) (known : (i : ℕ) → get_or s i 0 < 256) {w : Answer Frames} (walked : w ≡ walk_of net (walk net (take t s))) where
+  pub refuses : {r : Refusal} → w ≡ Err r → {v : Answer Frames} → v ≡ Err r → Gives (settled net (walk net (take t s)) s t o) v t s o
+  unfolding settled pushed_of
+  refuses {r} e f = gives (settled net (refused r) s t o) (rw (walked_refused net (walk net (take t s)) walked e)) f refl
 
   module _ {n b : ℕ} (e : w ≡ Ok (counted n b)) where
     cuts : Cuts net n b (take t s) (walk net (take t s))
@@ -74,11 +73,11 @@ module _ (net : NetworkMagic) (s : List ℕ) (t : ℕ) (o : List ℕ) (fits : t 
     within = omega (arith, sizes cuts)
 
     pub delivers : {s' o' : List ℕ} → s' ≡ splice s 0 (part s b (t - b)) → o' ≡ splice o 0 (take b s)
-        → Gives (settled net (walk net (take t s)) s t o) (Accepted n b (t - b)) s' o'
-    unfolding settled
+        → Gives (settled net (walk net (take t s)) s t o) (Ok (counted n b)) (t - b) s' o'
+    unfolding settled pushed_of
     delivers {s'} {o'} p q = go cuts
       where
-        go : Cuts net n b (take t s) (walk net (take t s)) → Gives (settled net (walk net (take t s)) s t o) (Accepted n b (t - b)) s' o'
+        go : Cuts net n b (take t s) (walk net (take t s)) → Gives (settled net (walk net (take t s)) s t o) (Ok (counted n b)) (t - b) s' o'
         go c =
             let fs = c.frames in
             let rest = c.rest in
@@ -86,8 +85,8 @@ module _ (net : NetworkMagic) (s : List ℕ) (t : ℕ) (o : List ℕ) (fits : t 
             let u : s ≡ encodings net fs ++ (rest ++ drop t s) = sym (take-append-drop t s) ∙ rw (← c.all, append_assoc) in
             let v : take b s ≡ encodings net fs = ap (take b) u ∙ take_at (encodings net fs) (rest ++ drop t s) b c.size in
             let y : part s b (t - b) ≡ rest = ap (λ (l : List ℕ). part l b (t - b)) u ∙ rw (drop_at (encodings net fs) (rest ++ drop t s) b c.size) (take_at rest (drop t s) (t - b) d) in
-            let r : Accepted n b (t - b) ≡ Accepted (length fs) (length (encodings net fs)) (length rest) = rw (c.count, c.size, d) in
-            rw (p, q, y, v) (gives (settled net (stopped fs rest) s t o) (rw c.is) r)
+            let r : Ok (counted n b) ≡ Ok (counted (length fs) (length (encodings net fs))) = rw (c.count, c.size) in
+            rw (p, q, y, v) (gives (settled net (stopped fs rest) s t o) (rw c.is) r (sym d))
 
 -- ---- the tests of a push
 
@@ -131,13 +130,14 @@ module _ (s : List ℕ) (h : ℕ) (x o : List ℕ) {a : Answer ℕ} (q : a ≡ p
   taken_put g = let p = passed in part_put s x h t p.0 (omega (arith, p.0, p.1.store)) g
 
 module _ (net : NetworkMagic) (s : List ℕ) (h : ℕ) (x o : List ℕ) {a : Answer ℕ} (q : a ≡ passing s h x o Err (Ok (h + length x))) where
-  pub turned : {r : Refusal} → a ≡ Err r → Gives (push net s h x o) (Refused r h) s o
-  unfolding push admitted
-  turned {r} e = gives (turned_away r s h o) (passing_away s h x o q e (λ (v : Refusal). turned_away v s h o) (settled net (walk net (take h s ++ x)) (splice s h x) (h + length x) o)) refl
+  pub turned : {r : Refusal} → a ≡ Err r → {v : Answer Frames} → v ≡ Err r → Gives (push net s h x o) v h s o
+  unfolding push admitted pushed_of
+  turned {r} e f =
+      gives (turned_away r s h o) (passing_away s h x o q e (λ (v : Refusal). turned_away v s h o) (settled net (walk net (take h s ++ x)) (splice s h x) (h + length x) o)) f refl
 
   -- s₁ is the store with the input in it
-  pub settles : {t : ℕ} → a ≡ Ok t → {s₁ : List ℕ} → s₁ ≡ splice s h x → {r : Pushed} {s' o' : List ℕ}
-      → Gives (settled net (walk net (take t s₁)) s₁ t o) r s' o' → Gives (push net s h x o) r s' o'
+  pub settles : {t : ℕ} → a ≡ Ok t → {s₁ : List ℕ} → s₁ ≡ splice s h x → {r : Answer Frames} {k : ℕ} {s' o' : List ℕ}
+      → Gives (settled net (walk net (take t s₁)) s₁ t o) r k s' o' → Gives (push net s h x o) r k s' o'
   unfolding push admitted
   settles e i g =
       let p = passing_taken s h x o q e in

@@ -48,10 +48,6 @@ moved_down s from n h =
     let z : 0 + n ≡ n = omega arith in
     rw (m, z) (sym (splice_front s (part s from n) (omega arith) ∙ rw k))
 
--- the first bytes replaced by as many
-pub put_front : (o s : List ℕ) (n : ℕ) {x : List ℕ} → n ≤ length s → n ≤ length o → x ≡ take n s → x ++ drop n o ≡ splice o 0 (take n s)
-put_front o s n h k e = rw e (sym (splice_front o (take n s) (rw (length-take-le n s h) k) ∙ rw (length-take-le n s h)))
-
 -- where there are none, each slice gets its own first bytes again
 pub none_moved : (s : List ℕ) (from n : ℕ) → from ≤ 0 → from + n ≤ length s → s ≡ splice s 0 (part s from n)
 none_moved s from n z h = let none : from ≡ 0 = omega arith in rw none (sym (splice_own n s (omega arith)))

@@ -11,7 +11,7 @@ use Rattle.hns_refusals.specs.declared.Refusal.{Refusal}
 use Rattle.hns_refusals.specs.Refusals.{Answer}
 use Rattle.hns_p2p_frame.specs.declared.NetworkMagic.{NetworkMagic}
 use Rattle.hns_p2p_frame.specs.declared.Prefix.{Prefix}
-use Rattle.hns_p2p_frame.specs.declared.Walk.{Walk}
+use Rattle.hns_p2p_frame.specs.declared.Frames.{Frames}
 use Rattle.hns_p2p_frame.specs.Frame.{Frame, encoding, encodings, front}
 use Rattle.hns_p2p_frame.specs.Walk.{Walked, stopped, refused, walk}
 use Rattle.hns_p2p_frame.specs.Answers.{prefix_of}
@@ -22,11 +22,11 @@ use Rattle.hns_p2p_frame.proofs.Answers.{front_not_yet, front_bad, front_whole}
 
 -- ---- a walk as far as a place
 
-abbrev pub counted : ℕ → ℕ → Walk
+abbrev pub counted : ℕ → ℕ → Frames
 counted n b = record { frames = n; bytes = b }
 
 -- n frames of b bytes before those that a walk found
-abbrev pub added : ℕ → ℕ → Answer Walk → Answer Walk
+abbrev pub added : ℕ → ℕ → Answer Frames → Answer Frames
 added n b (Ok w) = Ok (counted (n + w.frames) (b + w.bytes))
 added n b (Err r) = Err r
 
@@ -36,10 +36,10 @@ pub record WalkedTo (net : NetworkMagic) (s : List ℕ) (n p : ℕ) : Type 0 whe
   pub few : n ≤ p
   pub goes : walk_of net (walk net s) ≡ added n p (walk_of net (walk net (drop p s)))
 
-same_walk : {n m b c : ℕ} → n ≡ m → b ≡ c → ◌≡◌ {A = Answer Walk} (Ok (counted n b)) (Ok (counted m c))
+same_walk : {n m b c : ℕ} → n ≡ m → b ≡ c → ◌≡◌ {A = Answer Frames} (Ok (counted n b)) (Ok (counted m c))
 same_walk e f = ap₂ (λ (x y : ℕ). Ok (counted x y)) e f
 
-added_none : (w : Answer Walk) → added 0 0 w ≡ w
+added_none : (w : Answer Frames) → added 0 0 w ≡ w
 added_none (Ok w) = same_walk (zero-add w.frames) (zero-add w.bytes)
 added_none (Err r) = refl
 
@@ -53,7 +53,7 @@ added_one net f (stopped fs rest) =
     same_walk (omega arith) (length-append (encoding net f) (encodings net fs) ∙ ap (λ (k : ℕ). k + length (encodings net fs)) (length_encoding net f))
 added_one net f (refused r) = refl
 
-added_added : (n b m c : ℕ) (w : Answer Walk) → added n b (added m c w) ≡ added (n + m) (b + c) w
+added_added : (n b m c : ℕ) (w : Answer Frames) → added n b (added m c w) ≡ added (n + m) (b + c) w
 added_added n b m c (Ok w) = same_walk (omega arith) (omega arith)
 added_added n b m c (Err r) = refl
 
@@ -91,3 +91,6 @@ module _ {net : NetworkMagic} {s : List ℕ} {n p : ℕ} (w : WalkedTo net s n p
           few = omega (arith, w.few, took);
           goes = w.goes ∙ rw (walk_turn net (drop p s), v.is, added_one net f (walk net v.rest), added_added n p 1 (9 + length f.payload) (walk_of net (walk net v.rest)), took, d);
         }
+
+    pub turn_within : p + x.taken ≤ length s
+    turn_within = turn_goes.inside

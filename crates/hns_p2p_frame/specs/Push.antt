@@ -6,10 +6,9 @@ use Rattle.hns_refusals.specs.Refusals.{stream_too_large, output_short, store_sh
 use Rattle.hns_encoding.specs.Bytes.{choose}
 use Rattle.hns_encoding.specs.Put.{splice}
 use Rattle.hns_p2p_frame.specs.declared.NetworkMagic.{NetworkMagic}
-use Rattle.hns_p2p_frame.specs.declared.Pushed.{Pushed}
-use Rattle.hns_p2p_frame.specs.declared.Pushed.TheVariants.{Accepted, Refused}
-use Rattle.hns_p2p_frame.specs.declared.Delivered.{Delivered}
-use Rattle.hns_p2p_frame.specs.declared.Delivered.TheVariants as D
+use Rattle.hns_p2p_frame.specs.Pushed.{Pushed, Accepted, Refused}
+use Rattle.hns_p2p_frame.specs.Delivered.{Delivered}
+use Rattle.hns_p2p_frame.specs.Delivered as D
 use Rattle.hns_p2p_frame.specs.Frame.{encodings}
 use Rattle.hns_p2p_frame.specs.Walk.{Walked, stopped, refused, walk}
 

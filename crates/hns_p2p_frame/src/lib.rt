@@ -1,4 +1,7 @@
 //! Frames of a peer stream: reading one at the front of a slice, writing one, and the push that cuts a stream into frames.
+//!
+//! Slices come with a place or a count beside them, as C lends them. A part of one is `&x[a..b]`: its bounds are proved, so that
+//! there is no None to answer, as `get` would have.
 #![tactic(auto)]
 
 ghost use Rattle.std.specs.Prelude.{◌≡◌, ◌++◌, ◌∷◌, ◌+◌, ◌-◌, ◌≤◌, length, take, Ok, Err};
@@ -7,7 +10,7 @@ ghost use Rattle.hns_encoding.specs.Put.{splice, Put};
 ghost use Rattle.hns_p2p_frame.specs.Frame.{magic, missing, front, payload_of, decode_exact, write_frame};
 ghost use Rattle.hns_p2p_frame.specs.Walk.{walk};
 ghost use Rattle.hns_p2p_frame.specs.Push as Push;
-ghost use Rattle.hns_p2p_frame.specs.Answers.{prefix_of, exact_of};
+ghost use Rattle.hns_p2p_frame.specs.Answers.{prefix_of, exact_of, pushed_of, beside};
 ghost use Rattle.hns_p2p_frame.specs.Helpers.{walk_of};
 
 use hns_encoder::Encoder;
@@ -73,43 +76,46 @@ pub struct Prefix {
     pub taken: usize,
 }
 
-// The number of frames that a push delivered and the length of their encodings, or its refusal; and how many bytes are held.
-// Stays an enum: a refused push answers the held count too, which a Result would not have.
-#[derive(Clone, Copy, Debug, PartialEq, Eq)]
-pub enum Pushed {
-    Accepted {
-        frames: usize,
-        bytes: usize,
-        held: usize,
-    },
-    Refused {
-        refusal: Refusal,
-        held: usize,
-    },
+// The frames that a slice begins with, up to the first that is not all there, or that a push delivers: how many, and the length
+// of their encodings, as a row for C takes them.
+#[derive(Clone, Copy, Debug, Default, PartialEq, Eq)]
+pub struct Frames {
+    pub frames: usize,
+    pub bytes: usize,
 }
 
-// The same with the frames and bytes delivered beside a refusal too: the answer of a push with a tally.
-// Stays an enum: a refusal that comes with what was delivered is no Result.
+// What a push answers: the frames that it delivered, or why it is refused and delivers none; and how many bytes are held.
+// The held count stands beside the Result, since either case has one, and the next push asks for it.
 #[derive(Clone, Copy, Debug, PartialEq, Eq)]
-pub enum Delivered {
-    Accepted {
-        frames: usize,
-        bytes: usize,
-        held: usize,
-    },
-    Refused {
-        refusal: Refusal,
-        frames: usize,
-        bytes: usize,
-        held: usize,
-    },
+pub struct Pushed {
+    pub delivered: Result<Frames, Refusal>,
+    pub held: usize,
 }
 
-// The frames that a slice begins with, up to the first that is not all there: their number and the length of their encodings.
+// What a push with a tally answers. Frames and bytes stand beside a refusal too, as in its row for C; they are 0 there today
+// (docs/DECISIONS.md, 95).
 #[derive(Clone, Copy, Debug, PartialEq, Eq)]
-struct Walk {
-    frames: usize,
-    bytes: usize,
+pub struct Delivered {
+    pub frames: usize,
+    pub bytes: usize,
+    pub held: usize,
+    pub verdict: Result<(), Refusal>,
+}
+
+// A push that is refused delivers nothing.
+impl From<Pushed> for Delivered {
+    ghost from_gives = { λ pushed answer. answer ≡ beside pushed.delivered pushed.held };
+
+    #[tactic(auto, unfolding(crate::specs::Answers::beside))]
+    fn from(pushed: Pushed) -> Delivered {
+        let Frames { frames, bytes } = pushed.delivered.unwrap_or_default();
+        Delivered {
+            frames,
+            bytes,
+            held: pushed.held,
+            verdict: pushed.delivered.and(Ok(())),
+        }
+    }
 }
 
 // None where it is not all there yet.
@@ -122,8 +128,8 @@ pub fn decode_frame_prefix(network: NetworkMagic, input: &[u8]) -> Result<Option
     }
     if hns_encoding::array_at(input, 0) != network.as_bytes() {
         return Err(Refusal::MagicMismatch {
-            expected: u32::from(network),
-            found: hns_encoding::u32_at(input, 0),
+            expected: u64::from(u32::from(network)),
+            found: u64::from(hns_encoding::u32_at(input, 0)),
         });
     }
     let length = hns_encoding::u32_at(input, 5) as usize;
@@ -141,7 +147,7 @@ pub fn decode_frame_prefix(network: NetworkMagic, input: &[u8]) -> Result<Option
     }))
 }
 
-// The payload of the frame that the input begins with; the empty part where it begins with none.
+// The payload of the frame that the input begins with; the empty part where it begins with none, of which decode_frame_prefix says why.
 #[tactic(auto, using(crate::proofs::Answers::payload_not_yet, crate::proofs::Answers::payload_bad, crate::proofs::Answers::payload_within, crate::proofs::Answers::payload_whole))]
 pub fn payload(network: NetworkMagic, input: &[u8]) -> &[u8]
     ensures { result.now ≡ payload_of (front network input.now) }
@@ -178,7 +184,8 @@ pub fn decode_exact(network: NetworkMagic, input: &[u8]) -> Result<Prefix, Refus
     Ok(prefix)
 }
 
-// The nine bytes of a frame before its payload, which a put of the payload can follow in the same output: the cursor is by value beside it, a form that document 01 names.
+// The nine bytes of a frame before its payload, which a put of the payload can follow in the same output: the cursor is by value
+// beside it, a form that document 01 names.
 pub fn put_frame_header(
     encoder: Encoder,
     out: &mut [u8],
@@ -194,7 +201,7 @@ pub fn put_frame_header(
         .put_u32_le(out, length)
 }
 
-// The length of the encoding that is written to the output's front.
+// The length of the encoding that is written to the output's front. Type and payload come one by one, as C gives them.
 #[tactic(auto, using(crate::proofs::Writes::over_is, crate::proofs::Writes::short_is, crate::proofs::Writes::fits_is))]
 pub fn encode(
     network: NetworkMagic,
@@ -219,8 +226,9 @@ pub fn encode(
     Ok(total)
 }
 
-#[tactic(auto, using(crate::proofs::Turns::walked_start, crate::proofs::Turns::turn_stops, crate::proofs::Turns::turn_refuses, crate::proofs::Turns::turn_gains, crate::proofs::Turns::turn_goes))]
-fn walk_frames(network: NetworkMagic, input: &[u8]) -> Result<Walk, Refusal>
+// `bytes` goes on by each frame's own length, so that no iterator of std's counts it.
+#[tactic(auto, using(crate::proofs::Turns::walked_start, crate::proofs::Turns::turn_stops, crate::proofs::Turns::turn_refuses, crate::proofs::Turns::turn_gains, crate::proofs::Turns::turn_within))]
+fn walk_frames(network: NetworkMagic, input: &[u8]) -> Result<Frames, Refusal>
     ensures { result ≡ walk_of network (walk network input.now) }
 {
     let mut frames = 0;
@@ -229,44 +237,43 @@ fn walk_frames(network: NetworkMagic, input: &[u8]) -> Result<Walk, Refusal>
         frames += 1;
         bytes += prefix.taken;
     }
-    Ok(Walk { frames, bytes })
+    Ok(Frames { frames, bytes })
 }
 
-// Copies the store's first bytes to the output's front, and moves the `left` bytes after them to its own. Where there are none to deliver, no byte moves.
-#[tactic(auto, using(crate::proofs::Slices::moved_down, crate::proofs::Slices::put_front, crate::proofs::Slices::none_moved, crate::proofs::Slices::none_put))]
+// Copies the store's first bytes to the output's front, and moves the `left` bytes after them to its own. Where there are none to
+// deliver, no byte moves.
+// Whole slices with numbers: with parts of them the call would have two cuts more, and the copies the numbers all the same.
+#[tactic(auto, using(crate::proofs::Slices::moved_down, crate::proofs::Slices::none_moved, crate::proofs::Slices::none_put))]
 fn deliver(store: &mut [u8], bytes: usize, left: usize, output: &mut [u8])
     requires { (bytes + left ≤ length store.old) × (bytes ≤ length output.old) }
     ensures store_after { store.new ≡ splice store.old 0 (part store.old bytes left) }
     ensures output_after { output.new ≡ splice output.old 0 (take bytes store.old) }
 {
     if 0 < bytes {
-        output[..bytes].copy_from_slice(&store[..bytes]);
+        hns_encoding::put_front(output, &store[..bytes]);
         store.copy_within(bytes..bytes + left, 0);
     }
 }
 
-// What is left to do once the input is appended: the first `total` bytes are walked.
-fn settle(network: NetworkMagic, store: &mut [u8], total: usize, output: &mut [u8]) -> Pushed
-    requires { (total ≤ length store.old) × (total ≤ length output.old) }
-    ensures value { result ≡ (Push.settled network (walk network (take total store.old)) store.old total output.old).answer }
-    ensures store_after { store.new ≡ (Push.settled network (walk network (take total store.old)) store.old total output.old).store }
-    ensures output_after { output.new ≡ (Push.settled network (walk network (take total store.old)) store.old total output.old).output }
+// What is left to do once the input is appended, and held: the held bytes are walked, and those of whole frames are delivered.
+// That they are within store and output is required, since take_in has tested it.
+fn settle(
+    network: NetworkMagic,
+    store: &mut [u8],
+    held: &mut usize,
+    output: &mut [u8],
+) -> Result<Frames, Refusal>
+    requires { (held.old ≤ length store.old) × (held.old ≤ length output.old) }
+    ensures value { result ≡ (pushed_of (Push.settled network (walk network (take held.old store.old)) store.old held.old output.old).answer).delivered }
+    ensures held_after { held.new ≡ (pushed_of (Push.settled network (walk network (take held.old store.old)) store.old held.old output.old).answer).held }
+    ensures store_after { store.new ≡ (Push.settled network (walk network (take held.old store.old)) store.old held.old output.old).store }
+    ensures output_after { output.new ≡ (Push.settled network (walk network (take held.old store.old)) store.old held.old output.old).output }
 {
-    match walk_frames(network, &store[..total]) {
-        Err(refusal) => Pushed::Refused {
-            refusal,
-            held: total,
-        },
-        Ok(Walk { frames, bytes }) => {
-            let held = total - bytes;
-            deliver(store, bytes, held, output);
-            Pushed::Accepted {
-                frames,
-                bytes,
-                held,
-            }
-        }
-    }
+    let delivered = walk_frames(network, &store[..*held])?;
+    let left = *held - delivered.bytes;
+    deliver(store, delivered.bytes, left, output);
+    *held = left;
+    Ok(delivered)
 }
 
 // The tests of every push before it appends its input: 18, 6, 17, 16. How many bytes held and input are together.
@@ -290,8 +297,27 @@ pub fn take_in(store: &[u8], held: usize, input: &[u8], output: &[u8]) -> Result
     Ok(total)
 }
 
-// Takes input into a stream whose held bytes are the store's first. Store and held count come one by one, as C lends them.
+// A push with its held count as it goes: that of before where a test turns it away, and where a header is refused, with the input in it.
 #[tactic(auto, using(crate::proofs::Settles::taken_within, crate::proofs::Settles::taken_long))]
+fn push_held(
+    network: NetworkMagic,
+    store: &mut [u8],
+    held: &mut usize,
+    input: &[u8],
+    output: &mut [u8],
+) -> Result<Frames, Refusal>
+    ensures value { result ≡ (pushed_of (Push.push network store.old held.old input.now output.old).answer).delivered }
+    ensures held_after { held.new ≡ (pushed_of (Push.push network store.old held.old input.now output.old).answer).held }
+    ensures store_after { store.new ≡ (Push.push network store.old held.old input.now output.old).store }
+    ensures output_after { output.new ≡ (Push.push network store.old held.old input.now output.old).output }
+{
+    let total = take_in(store, *held, input, output)?;
+    hns_encoding::put_front(&mut store[*held..total], input);
+    *held = total;
+    settle(network, store, held, output)
+}
+
+// Takes input into a stream whose held bytes are the store's first. Store and held count come one by one, as C lends them.
 pub fn push(
     network: NetworkMagic,
     store: &mut [u8],
@@ -299,15 +325,14 @@ pub fn push(
     input: &[u8],
     output: &mut [u8],
 ) -> Pushed
-    ensures value { result ≡ (Push.push network store.old held input.now output.old).answer }
+    ensures value { result ≡ pushed_of (Push.push network store.old held input.now output.old).answer }
     ensures store_after { store.new ≡ (Push.push network store.old held input.now output.old).store }
     ensures output_after { output.new ≡ (Push.push network store.old held input.now output.old).output }
 {
-    match take_in(store, held, input, output) {
-        Err(refusal) => Pushed::Refused { refusal, held },
-        Ok(total) => {
-            store[held..total].copy_from_slice(input);
-            settle(network, store, total, output)
-        }
+    let mut left = held;
+    let delivered = push_held(network, store, &mut left, input, output);
+    Pushed {
+        delivered,
+        held: left,
     }
 }

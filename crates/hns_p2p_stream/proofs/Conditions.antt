@@ -13,7 +13,7 @@ use Rattle.hns_encoding.specs.Put.{splice}
 use Rattle.hns_encoding.proofs.Numbers.{bytes_append}
 use Rattle.hns_encoding.proofs.Puts.{splice_fits}
 use Rattle.hns_p2p_frame.specs.declared.NetworkMagic.{NetworkMagic}
-use Rattle.hns_p2p_frame.specs.declared.Pushed.TheVariants.{Refused}
+use Rattle.hns_p2p_frame.specs.Pushed.{Refused}
 use Rattle.hns_p2p_frame.specs.Frame.{Frame, WellFormed, encodings, Front, not_yet, bad, front}
 use Rattle.hns_p2p_frame.specs.Conditions.{FrontIs}
 use Rattle.hns_p2p_frame.specs.Walk.{Why, unfinished, bad_header, Cutting, cut, walked_for, walk}

@@ -11,8 +11,7 @@ use Rattle.hns_encoding.specs.Bytes.{Bytes, none}
 use Rattle.hns_encoding.specs.Format.{All}
 use Rattle.hns_encoding.specs.Put.{splice}
 use Rattle.hns_p2p_frame.specs.declared.NetworkMagic.{NetworkMagic}
-use Rattle.hns_p2p_frame.specs.declared.Pushed.{Pushed}
-use Rattle.hns_p2p_frame.specs.declared.Pushed.TheVariants.{Accepted, Refused}
+use Rattle.hns_p2p_frame.specs.Pushed.{Pushed, Accepted, Refused}
 use Rattle.hns_p2p_frame.specs.Frame.{Frame, WellFormed, encodings, not_yet, front}
 use Rattle.hns_p2p_frame.specs.Conditions.{few}
 use Rattle.hns_p2p_frame.specs.Walk.{Walked, stopped, refused, walk}

@@ -16,7 +16,7 @@ use Rattle.hns_encoding.specs.Put.{splice}
 use Rattle.hns_encoding.proofs.Numbers.{bytes_drop, bytes_append}
 use Rattle.hns_encoding.proofs.Puts.{length_splice}
 use Rattle.hns_p2p_frame.specs.declared.NetworkMagic.{NetworkMagic}
-use Rattle.hns_p2p_frame.specs.declared.Pushed.TheVariants.{Accepted, Refused}
+use Rattle.hns_p2p_frame.specs.Pushed.{Accepted, Refused}
 use Rattle.hns_p2p_frame.specs.Frame.{Frame, WellFormed, encodings, not_yet, front}
 use Rattle.hns_p2p_frame.specs.Walk.{Walked, stopped, refused, walk}
 use Rattle.hns_p2p_frame.specs.Push.{Result, needed, settled, push}

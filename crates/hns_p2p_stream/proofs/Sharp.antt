@@ -12,7 +12,7 @@ use Rattle.hns_encoding.specs.Bytes.{le, le_bytes, Bytes, none}
 use Rattle.hns_encoding.proofs.Numbers.{bytes_append}
 use Rattle.hns_p2p_frame.specs.declared.NetworkMagic.{NetworkMagic}
 use Rattle.hns_p2p_frame.specs.declared.NetworkMagic.TheVariants.{Mainnet, Testnet, Regtest, Simnet}
-use Rattle.hns_p2p_frame.specs.declared.Pushed.TheVariants.{Accepted}
+use Rattle.hns_p2p_frame.specs.Pushed.{Accepted}
 use Rattle.hns_p2p_frame.specs.Frame.{magic, encodings, not_yet, payload_length}
 use Rattle.hns_p2p_frame.specs.Conditions.{FrontIs, begun}
 use Rattle.hns_p2p_frame.specs.Push.{Result, push}

@@ -7,7 +7,7 @@ use Rattle.hns_refusals.specs.Refusals.{magic_mismatch, payload_too_large, incom
 use Rattle.hns_encoding.specs.Bytes.{le, le_bytes, stop}
 use Rattle.hns_encoding.specs.Put.{splice}
 use Rattle.hns_p2p_frame.specs.declared.NetworkMagic.TheVariants.{Mainnet, Regtest}
-use Rattle.hns_p2p_frame.specs.declared.Pushed.TheVariants.{Accepted, Refused}
+use Rattle.hns_p2p_frame.specs.Pushed.{Accepted, Refused}
 use Rattle.hns_p2p_frame.specs.Frame.{magic, encoding, encodings, bad, same, payload_length, front, missing, exactly, decode_exact}
 use Rattle.hns_p2p_frame.specs.Walk.{onwards, cut_up_to, cut, walked_for, walk}
 use Rattle.hns_p2p_frame.specs.Push.{settled, passing, admitted, push}

@@ -7,7 +7,7 @@ use Rattle.hns_encoding.specs.Bytes.{Bytes}
 use Rattle.hns_encoding.specs.Format.{All}
 use Rattle.hns_encoding.specs.Put.{splice}
 use Rattle.hns_p2p_frame.specs.declared.NetworkMagic.{NetworkMagic}
-use Rattle.hns_p2p_frame.specs.declared.Pushed.TheVariants.{Accepted, Refused}
+use Rattle.hns_p2p_frame.specs.Pushed.{Accepted, Refused}
 use Rattle.hns_p2p_frame.specs.Frame.{Frame, WellFormed, encodings, not_yet, bad}
 use Rattle.hns_p2p_frame.specs.Push.{Result, needed, turned_away, push}
 use Rattle.hns_p2p_frame.specs.Conditions.{◌⇔◌, FrontIs}

@@ -5,8 +5,7 @@ use Rattle.hns_refusals.specs.declared.Refusal.{Refusal}
 use Rattle.hns_encoding.specs.Bytes.{Bytes, choose}
 use Rattle.hns_encoding.specs.Format.{All}
 use Rattle.hns_p2p_frame.specs.declared.NetworkMagic.{NetworkMagic}
-use Rattle.hns_p2p_frame.specs.declared.Delivered.{Delivered}
-use Rattle.hns_p2p_frame.specs.declared.Delivered.TheVariants.{Accepted, Refused}
+use Rattle.hns_p2p_frame.specs.Delivered.{Delivered, Accepted, Refused}
 use Rattle.hns_p2p_frame.specs.Frame.{Frame, WellFormed, encodings}
 use Rattle.hns_p2p_stream.specs.Stream.{for_header}
 

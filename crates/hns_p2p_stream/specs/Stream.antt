@@ -7,8 +7,7 @@ use Rattle.hns_refusals.specs.Refusals.{number, stream_too_large, store_short, o
 use Rattle.hns_encoding.specs.Bytes.{Bytes, choose}
 use Rattle.hns_encoding.specs.Format.{All}
 use Rattle.hns_p2p_frame.specs.declared.NetworkMagic.{NetworkMagic}
-use Rattle.hns_p2p_frame.specs.declared.Pushed.{Pushed}
-use Rattle.hns_p2p_frame.specs.declared.Pushed.TheVariants.{Accepted, Refused}
+use Rattle.hns_p2p_frame.specs.Pushed.{Pushed, Accepted, Refused}
 use Rattle.hns_p2p_frame.specs.Frame.{magic, Frame, WellFormed, encodings, payload_length}
 use Rattle.hns_p2p_frame.specs.Push.{Result, push}
 

@@ -3,8 +3,7 @@ use Rattle.std.specs.Prelude.{ℕ, ◌+◌, List, [], ◌∷◌, ◌++◌, lengt
 use Rattle.hns_refusals.specs.declared.Refusal.{Refusal}
 use Rattle.hns_encoding.specs.Put.{splice}
 use Rattle.hns_p2p_frame.specs.declared.NetworkMagic.{NetworkMagic}
-use Rattle.hns_p2p_frame.specs.declared.Pushed.{Pushed}
-use Rattle.hns_p2p_frame.specs.declared.Pushed.TheVariants.{Accepted, Refused}
+use Rattle.hns_p2p_frame.specs.Pushed.{Pushed, Accepted, Refused}
 use Rattle.hns_p2p_frame.specs.Frame.{encodings, Front, not_yet, whole, bad, front}
 use Rattle.hns_p2p_frame.specs.Walk.{Why, unfinished, bad_header, cut, Walked, stopped, refused, walk}
 use Rattle.hns_p2p_frame.specs.Push.{Result, settled, admitted, push}

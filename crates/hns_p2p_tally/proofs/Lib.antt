@@ -1,4 +1,5 @@
 pub mod Adds
+pub mod Behind
 pub mod Once
 pub mod Counts
 pub mod Tested

@@ -3,8 +3,11 @@ use Prim.Native.Nat.{ℕ, ◌+◌, ◌≤◌, ◌<◌}
 use native.Mathlib.Omega.{arith}
 use mathlib.Core.Path.{◌≡◌, refl, sym, ap, ◌∙◌}
 use mathlib.Core.List.{List}
-use mathlib.Core.Bool.{Bool, true, false, ◌&&◌}
-use lib.ListN.{length, get_or}
+use mathlib.Core.Bool.{Bool, true, false}
+use Rattle.std.proofs.Math.Bool.{and-false}
+use Rattle.std.proofs.lemmas.Bool.{and_parts, and_cases}
+use lib.ListN.{length, get_or, take}
+use Rattle.std.proofs.lemmas.List.{get_or-take}
 use lib.Dec.{leb}
 use borrow.Author.Tests.{le-leb, lt-leb, leb-true, leb-false}
 use Rattle.hns_refusals.specs.declared.Refusal.{Refusal}
@@ -18,6 +21,7 @@ use Rattle.hns_p2p_frame.proofs.Tests.{Passed, passing_away, passing_taken, pass
 use Rattle.hns_p2p_tally.specs.Tally.{tally_size, frame_total, byte_total, most_counted, roomy, Roomy, Passes}
 use mathlib.Core.Logic.{◌⊎◌, inl, inr, ⊎_elim}
 use Rattle.hns_p2p_tally.specs.Tallying.{passing_all}
+use Rattle.hns_p2p_tally.specs.Helpers.{room_of}
 
 -- `away` is what a refusal gives, and p what a push gives that no test turns away
 pub data AllTested {A : Type 0} (s : List ℕ) (h : ℕ) (x o t : List ℕ) (away : Refusal → A) (p : A) : A → Type 0 where
@@ -53,18 +57,6 @@ module _ {A : Type 0} (s : List ℕ) (h : ℕ) (x o t : List ℕ) (away : Refusa
 
 -- ---- the room of a tally
 
-both : (a b : Bool) → (a && b) ≡ true → (a ≡ true) × (b ≡ true)
-both true b e = (refl, e)
-both false b e = (e, cc)
-
-either : (a b : Bool) → (a && b) ≡ false → (a ≡ false) ⊎ (b ≡ false)
-either true b e = inr e
-either false b e = inl refl
-
-second_false : (a b : Bool) → b ≡ false → (a && b) ≡ false
-second_false true b e = e
-second_false false b e = refl
-
 module _ (t : List ℕ) (n : ℕ) where
   frames_fit : Bool
   frames_fit = leb (get_or t frame_total 0 + n) most_counted
@@ -75,12 +67,15 @@ module _ (t : List ℕ) (n : ℕ) where
   pub roomy_true : tally_size ≤ length t → roomy t n ≡ true → Roomy t n
   unfolding roomy frames_fit bytes_fit
   roomy_true l e =
-      let b = both frames_fit bytes_fit e in
+      let b = and_parts frames_fit bytes_fit e in
       record { size = l; frames = leb-true (get_or t frame_total 0 + n) most_counted b.0; bytes = leb-true (get_or t byte_total 0 + n) most_counted b.1 }
 
-  pub roomy_is : Roomy t n → roomy t n ≡ true
+  both_fit : get_or t frame_total 0 + n ≤ most_counted → get_or t byte_total 0 + n ≤ most_counted → roomy t n ≡ true
   unfolding roomy
-  roomy_is r = rw (le-leb (get_or t frame_total 0 + n) most_counted r.frames, le-leb (get_or t byte_total 0 + n) most_counted r.bytes)
+  both_fit a b = rw (le-leb (get_or t frame_total 0 + n) most_counted a, le-leb (get_or t byte_total 0 + n) most_counted b)
+
+  pub roomy_is : Roomy t n → roomy t n ≡ true
+  roomy_is r = both_fit r.frames r.bytes
 
   pub roomy_false : roomy t n ≡ false → Passes t n
   unfolding roomy frames_fit bytes_fit
@@ -88,14 +83,28 @@ module _ (t : List ℕ) (n : ℕ) where
       ⊎_elim
       (λ a. inl (leb-false (get_or t frame_total 0 + n) most_counted a))
       (λ a. inr (leb-false (get_or t byte_total 0 + n) most_counted a))
-      (either frames_fit bytes_fit e)
+      (and_cases frames_fit bytes_fit e)
 
   pub passes_is : Passes t n → roomy t n ≡ false
   unfolding roomy frames_fit bytes_fit
   passes_is =
       ⊎_elim
       (λ a. rw (lt-leb (get_or t frame_total 0 + n) most_counted a))
-      (λ a. second_false frames_fit bytes_fit (lt-leb (get_or t byte_total 0 + n) most_counted a))
+      (λ a. rw (lt-leb (get_or t byte_total 0 + n) most_counted a, and-false))
+
+  -- as an answer
+  pub room_full : (most_counted < get_or t frame_total 0 + n) ⊎ (most_counted < get_or t byte_total 0 + n) → Err tally_full ≡ room_of t n
+  unfolding room_of
+  room_full k = rw (passes_is k)
+
+  pub room_left : get_or t frame_total 0 + n ≤ most_counted → get_or t byte_total 0 + n ≤ most_counted → Ok tt ≡ room_of t n
+  unfolding room_of
+  room_left a b = rw (both_fit a b)
+
+  -- the tally's own numbers are a longer slice's first
+  front_roomy : roomy (take tally_size t) n ≡ roomy t n
+  unfolding roomy
+  front_roomy = rw (get_or-take tally_size t frame_total 0 (omega arith), get_or-take tally_size t byte_total 0 (omega arith))
 
 -- ---- the tests
 
@@ -117,14 +126,29 @@ module _ (s : List ℕ) (h : ℕ) (x o t : List ℕ) {a : Answer ℕ} (q : a ≡
     pub takes_in_short : length t < tally_size → Err (output_short tally_size) ≡ passing_all s h x o t Err (Ok (h + length x))
     takes_in_short l = sym (passing_all_is s h x o t Err (Ok (h + length x)) (short passed l))
 
-    module _ (l : tally_size ≤ length t) where
-      pub takes_in_full : (most_counted < get_or t frame_total 0 + n) ⊎ (most_counted < get_or t byte_total 0 + n) → Err tally_full ≡ passing_all s h x o t Err (Ok (h + length x))
-      takes_in_full k = sym (passing_all_is s h x o t Err (Ok (h + length x)) (full passed l (ap (roomy t) (sym total) ∙ passes_is t n k)))
+    -- b is whether the tally's own numbers have room
+    module _ (l : tally_size ≤ length t) {k : List ℕ} (i : k ≡ take tally_size t) {b : Answer (Unit {0})} (j : b ≡ room_of k n) where
+      said : b ≡ room_of t (h + length x)
+      unfolding room_of
+      said = j ∙ rw (i, front_roomy t n, total)
 
-      pub takes_in_all : get_or t frame_total 0 + n ≤ most_counted → get_or t byte_total 0 + n ≤ most_counted → Ok n ≡ passing_all s h x o t Err (Ok (h + length x))
-      takes_in_all j k = ap Ok total ∙ sym (passing_all_is s h x o t Err (Ok (h + length x)) (room passed l (ap (roomy t) (sym total) ∙ roomy_is t n (record { size = l; frames = j; bytes = k }))))
+      pub takes_in_full : {r : Refusal} → b ≡ Err r → Err r ≡ passing_all s h x o t Err (Ok (h + length x))
+      unfolding room_of
+      takes_in_full {r} f = go (roomy t (h + length x)) refl said
+        where
+          go : (y : Bool) → roomy t (h + length x) ≡ y → b ≡ choose y (Ok tt) (Err tally_full) → Err r ≡ passing_all s h x o t Err (Ok (h + length x))
+          go true m u = absurd (cc (f, u))
+          go false m u = let same : ◌≡◌ {A = Answer (Unit {0})} (Err r) (Err tally_full) = cc (f, u) in let v : r ≡ tally_full = cc in rw v (sym (passing_all_is s h x o t Err (Ok (h + length x)) (full passed l m)))
 
--- ---- what `take_in_tallying` answered, and what a push then gives
+      pub takes_in_all : {u : Unit {0}} → b ≡ Ok u → Ok n ≡ passing_all s h x o t Err (Ok (h + length x))
+      unfolding room_of
+      takes_in_all f = go (roomy t (h + length x)) refl said
+        where
+          go : (y : Bool) → roomy t (h + length x) ≡ y → b ≡ choose y (Ok tt) (Err tally_full) → Ok n ≡ passing_all s h x o t Err (Ok (h + length x))
+          go true m u = ap Ok total ∙ sym (passing_all_is s h x o t Err (Ok (h + length x)) (room passed l m))
+          go false m u = absurd (cc (f, u))
+
+-- ---- what the tests answered, and what a push then gives
 
 pub record AllPassed (s : List ℕ) (h : ℕ) (x o t : List ℕ) : Type 0 where
   pub passed : Passed s h x o

@@ -4,8 +4,7 @@ use Rattle.hns_refusals.specs.declared.Refusal.{Refusal}
 use Rattle.hns_refusals.specs.Refusals.{output_short, tally_full}
 use Rattle.hns_encoding.specs.Bytes.{choose}
 use Rattle.hns_p2p_frame.specs.declared.NetworkMagic.{NetworkMagic}
-use Rattle.hns_p2p_frame.specs.declared.Delivered.{Delivered}
-use Rattle.hns_p2p_frame.specs.declared.Delivered.TheVariants.{Refused}
+use Rattle.hns_p2p_frame.specs.Delivered.{Delivered, Refused}
 use Rattle.hns_p2p_frame.specs.Walk.{cut}
 use Rattle.hns_p2p_frame.specs.Push as ported
 use Rattle.hns_p2p_frame.specs.Push.{passing, delivered}

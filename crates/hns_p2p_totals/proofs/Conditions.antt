@@ -11,9 +11,9 @@ use Rattle.hns_refusals.specs.Refusals.{number, values, output_short, tally_full
 use Rattle.hns_encoding.specs.Bytes.{Bytes}
 use Rattle.hns_encoding.specs.Put.{splice}
 use Rattle.hns_p2p_frame.specs.declared.NetworkMagic.{NetworkMagic}
-use Rattle.hns_p2p_frame.specs.declared.Pushed.{Pushed}
-use Rattle.hns_p2p_frame.specs.declared.Pushed.TheVariants as P
-use Rattle.hns_p2p_frame.specs.declared.Delivered.TheVariants.{Refused}
+use Rattle.hns_p2p_frame.specs.Pushed.{Pushed}
+use Rattle.hns_p2p_frame.specs.Pushed as P
+use Rattle.hns_p2p_frame.specs.Delivered.{Refused}
 use Rattle.hns_p2p_frame.specs.Frame.{Frame, encodings, bad}
 use Rattle.hns_p2p_frame.specs.Walk.{cut_up_to, cut, walk}
 use Rattle.hns_p2p_frame.specs.Push as ported

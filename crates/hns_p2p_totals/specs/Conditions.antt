@@ -4,7 +4,7 @@ use Rattle.hns_refusals.specs.declared.Refusal.{Refusal}
 use Rattle.hns_refusals.specs.Refusals.{number, values, output_short, tally_full}
 use Rattle.hns_encoding.specs.Bytes.{Bytes}
 use Rattle.hns_p2p_frame.specs.declared.NetworkMagic.{NetworkMagic}
-use Rattle.hns_p2p_frame.specs.declared.Delivered.TheVariants.{Refused}
+use Rattle.hns_p2p_frame.specs.Delivered.{Refused}
 use Rattle.hns_p2p_frame.specs.Frame.{Frame}
 use Rattle.hns_p2p_frame.specs.Push as ported
 use Rattle.hns_p2p_frame.specs.Push.{delivered}

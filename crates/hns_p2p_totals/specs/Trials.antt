@@ -4,7 +4,7 @@ use Rattle.hns_refusals.specs.Refusals.{magic_mismatch, tally_full}
 use Rattle.hns_encoding.specs.Bytes.{choose}
 use Rattle.hns_encoding.specs.Put.{splice}
 use Rattle.hns_p2p_frame.specs.declared.NetworkMagic.{NetworkMagic}
-use Rattle.hns_p2p_frame.specs.declared.Delivered.TheVariants.{Accepted, Refused}
+use Rattle.hns_p2p_frame.specs.Delivered.{Accepted, Refused}
 use Rattle.hns_p2p_frame.specs.Frame.{Frame}
 use Rattle.hns_p2p_frame.specs.Walk.{cut}
 use Rattle.hns_p2p_frame.specs.Push as ported

@@ -1,5 +1,5 @@
 //! Answers about packets as rows of sixteen numbers, for callers in C and Rust. Rows are arrays of numbers, as the C interface has them.
-//! No From: it could not stand here, since both types are another crate's.
+//! No From: it could not stand here, since both types are another crate's (an array of numbers is the language's).
 #![tactic(auto)]
 
 ghost use Rattle.std.specs.Prelude.{◌≡◌, ◌∷◌, [], ◌≤◌};
@@ -13,7 +13,7 @@ use hns_p2p_types::{
 };
 use hns_refusals::Refusal;
 
-// Sixteen numbers of which these are the first.
+// Sixteen numbers of which these are the first, put into zeros, as std joins no arrays without a heap.
 fn filled<const N: usize>(numbers: [u64; N]) -> [u64; 16]
     requires { N ≤ 16 }
     ensures { result ≡ filled numbers.entry }
@@ -54,6 +54,7 @@ fn of_locator(packet: LocatorPacket) -> [u64; 16]
     ])
 }
 
+// The numbers of a locator under other names: the hash stands before the items here.
 fn of_request(request: CompactBlockRequest) -> [u64; 16]
     ensures { result ≡ row (request.indexes.count ∷ request.indexes.first ∷ request.block_hash ∷ []) }
 {
@@ -117,7 +118,8 @@ fn of_reject(reject: RejectPacket) -> [u64; 16]
     ])
 }
 
-// A row by the packet's numbers and places; all rows are as long as that of a version, the longest.
+// A row by the packet's numbers and places; all rows are as long as that of a version, the longest. Each kind has fields of its
+// own, so each arm is its own call.
 fn of_fields(packet: Packet) -> [u64; 16]
     ensures { result ≡ fields_row packet }
 {
@@ -154,6 +156,7 @@ fn of_fields(packet: Packet) -> [u64; 16]
     }
 }
 
+// One call, as that of an item: a generic one would take both ways as closures, and be that call with other names.
 pub fn of_packet(packet: Result<Packet, Refusal>) -> [u64; 16]
     ensures { result ≡ packet_row packet }
 {

@@ -10,10 +10,9 @@ use Rattle.hns_header_consensus.specs.declared.Header.{Header}
 use Rattle.hns_p2p_frame.specs.declared.NetworkMagic.{NetworkMagic}
 use Rattle.hns_p2p_frame.specs.declared.NetworkMagic.TheVariants.{Mainnet, Testnet, Regtest, Simnet}
 use Rattle.hns_p2p_frame.specs.declared.Prefix.{Prefix}
+use Rattle.hns_p2p_frame.specs.declared.Frames.{Frames}
 use Rattle.hns_p2p_frame.specs.declared.Pushed.{Pushed}
-use Rattle.hns_p2p_frame.specs.declared.Pushed.TheVariants as U
 use Rattle.hns_p2p_frame.specs.declared.Delivered.{Delivered}
-use Rattle.hns_p2p_frame.specs.declared.Delivered.TheVariants as D
 
 -- a row at the front of the caller's numbers; what does not fit is dropped
 unfoldable pub answered : List ℕ → List ℕ → List ℕ
@@ -76,12 +75,18 @@ exact_row (Ok p) = row p.packet_type p.length 0 0 0
 exact_row (Err r) = refused_row r 0
 
 -- the frames' number, the length of their encodings and the held count
+abbrev pub frames_row : Answer Frames → ℕ → List ℕ
+frames_row (Ok f) held = row f.frames f.bytes held 0 0
+frames_row (Err r) held = refused_row r held
+
 abbrev pub pushed_row : Pushed → List ℕ
-pushed_row (U.Accepted frames bytes held) = row frames bytes held 0 0
-pushed_row (U.Refused r held) = refused_row r held
+pushed_row p = frames_row p.delivered p.held
 
 -- 0 or the refusal's number, then the frames' number, the length of their encodings and the held count in either case, then a and b.
 -- c has no place: it is 0 in every refusal that a push gives.
+abbrev pub verdict_row : Answer (Unit {0}) → ℕ → ℕ → ℕ → List ℕ
+verdict_row (Ok u) frames bytes held = row frames bytes held 0 0
+verdict_row (Err r) frames bytes held = number r ∷ frames ∷ bytes ∷ held ∷ get_or (values r) 0 0 ∷ get_or (values r) 1 0 ∷ []
+
 abbrev pub delivered_row : Delivered → List ℕ
-delivered_row (D.Accepted frames bytes held) = row frames bytes held 0 0
-delivered_row (D.Refused r frames bytes held) = number r ∷ frames ∷ bytes ∷ held ∷ get_or (values r) 0 0 ∷ get_or (values r) 1 0 ∷ []
+delivered_row d = verdict_row d.verdict d.frames d.bytes d.held

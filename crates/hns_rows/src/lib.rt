@@ -1,27 +1,37 @@
 //! Answers as rows of six numbers, for callers in C and Rust. Rows are arrays of numbers, as the C interface has them.
-//! No From: it could not stand here, since both types are another crate's.
+//! Each is one match: a closure for the row of a value would be no shorter. No From: it could not stand here, since both types are another crate's (an array of numbers is the language's).
 #![tactic(auto)]
 
-ghost use Rattle.std.specs.Prelude.{◌≡◌};
+ghost use Rattle.std.specs.Prelude.{◌≡◌, ◌≤◌, length};
 ghost use Rattle.hns_rows.specs.Rows.{answered, network_of, refused_row, NumberRow, sizes_row, slice_row, checked_row, count_row, header_row, prefix_row, exact_row, pushed_row, delivered_row};
 
 use hns_encoding::Sizes;
 use hns_header_consensus::Header;
-use hns_p2p_frame::{Delivered, NetworkMagic, Prefix, Pushed};
+use hns_p2p_frame::{Delivered, Frames, NetworkMagic, Prefix, Pushed};
 use hns_refusals::Refusal;
 use std::ops::Range;
+
+// As many numbers of a row as the caller has room for. Apart, so that a row goes to memory twice only where it does not fit.
+#[cold]
+#[inline(never)]
+#[tactic(auto, unfolding(crate::specs::Rows::answered, hns_encoding::specs::Put::splice))]
+fn put_cut<const N: usize>(answer: &mut [u64], values: [u64; N])
+    requires { length answer.old ≤ N }
+    ensures { answer.new ≡ answered answer.old values.entry }
+{
+    let room = answer.len();
+    answer.copy_from_slice(&values[..room]);
+}
 
 // A row into the caller's numbers: as many as fit. A whole row is copied by a known number, which the compiler writes out.
 #[tactic(auto, unfolding(crate::specs::Rows::answered, hns_encoding::specs::Put::splice))]
 pub fn put_row<const N: usize>(answer: &mut [u64], values: [u64; N])
     ensures { answer.new ≡ answered answer.old values.entry }
 {
-    let room = answer.len();
-    if N <= room {
-        answer[..N].copy_from_slice(&values);
-    } else {
-        answer.copy_from_slice(&values[..room]);
+    if answer.len() < N {
+        return put_cut(answer, values);
     }
+    answer[..N].copy_from_slice(&values);
 }
 
 fn of_refusal(refusal: Refusal, held: usize) -> [u64; 6]
@@ -125,42 +135,30 @@ pub fn of_exact(exact: Result<Prefix, Refusal>) -> [u64; 6]
 pub fn of_pushed(pushed: Pushed) -> [u64; 6]
     ensures { result ≡ pushed_row pushed }
 {
-    match pushed {
-        Pushed::Accepted {
-            frames,
-            bytes,
-            held,
-        } => [0, frames as u64, bytes as u64, held as u64, 0, 0],
-        Pushed::Refused { refusal, held } => of_refusal(refusal, held),
+    let Pushed { delivered, held } = pushed;
+    match delivered {
+        Ok(Frames { frames, bytes }) => [0, frames as u64, bytes as u64, held as u64, 0, 0],
+        Err(refusal) => of_refusal(refusal, held),
     }
 }
 
 pub fn of_delivered(delivered: Delivered) -> [u64; 6]
     ensures { result ≡ delivered_row delivered }
 {
-    match delivered {
-        Delivered::Accepted {
-            frames,
-            bytes,
-            held,
-        } => [0, frames as u64, bytes as u64, held as u64, 0, 0],
-        Delivered::Refused {
-            refusal,
-            frames,
-            bytes,
-            held,
-        } => {
+    let Delivered {
+        frames,
+        bytes,
+        held,
+        verdict,
+    } = delivered;
+    let [number, a, b] = match verdict {
+        Ok(()) => [0; 3],
+        Err(refusal) => {
             let [a, b, _] = refusal.values();
-            [
-                refusal.number(),
-                frames as u64,
-                bytes as u64,
-                held as u64,
-                a,
-                b,
-            ]
+            [refusal.number(), a, b]
         }
-    }
+    };
+    [number, frames as u64, bytes as u64, held as u64, a, b]
 }
 
 // The numbers of networks are the C interface's.

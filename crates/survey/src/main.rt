@@ -15,12 +15,13 @@ ghost use Rattle.survey.specs.Turn.{Leaves};
 use std::io::{self, Read};
 use survey_export::Kept;
 
-// Says which stream failed, and why. Where standard error takes nothing either, nobody is left to tell.
+// Says which stream failed, and why, by the error's own Display. Where standard error takes nothing either, nobody is left to tell.
 fn say(rt: &impl Eprint, stream: &str, error: io::Error) {
     let _ = eprintln!(rt; "survey: {stream}: {error}");
 }
 
-// Reads until the chunk is full or the log ends.
+// Reads until the chunk is full or the log ends: no method of std's does without a heap and says how much there was. A read of
+// 0 bytes says that the log is over.
 fn fill(input: &mut impl Read, chunk: &mut [u8]) -> io::Result<usize> {
     let mut done = 0;
     while done < chunk.len() {
@@ -32,7 +33,8 @@ fn fill(input: &mut impl Read, chunk: &mut [u8]) -> io::Result<usize> {
     Ok(done)
 }
 
-// What is kept for the next turn, or none where the survey is over. An error is that of a write.
+// What is kept for the next turn, or none where the survey is over. An error is that of a write, of bytes of text. What a step works
+// with is lent one by one, here and in run: a struct of it would be taken apart again by take_chunk, whose promise names each.
 fn turn(
     rt: &(impl Print + Eprint),
     input: &mut impl Read,
@@ -81,6 +83,7 @@ fn run(
     Ok(())
 }
 
+// Arrays, since there is no heap: all that a survey works with.
 fn main(rt: HostRuntime) {
     let mut store = [0u8; 24_576];
     let mut chunk = [0u8; 4_096];

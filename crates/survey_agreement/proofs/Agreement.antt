@@ -15,8 +15,7 @@ use Rattle.hns_encoding.specs.Put.{splice}
 use Rattle.hns_encoding.proofs.Numbers.{bytes_drop, bytes_take}
 use Rattle.hns_encoding.proofs.Outcomes.{choose_holds, choose_leb}
 use Rattle.hns_p2p_frame.specs.declared.NetworkMagic.TheVariants.{Mainnet}
-use Rattle.hns_p2p_frame.specs.declared.Pushed.{Pushed}
-use Rattle.hns_p2p_frame.specs.declared.Pushed.TheVariants.{Accepted, Refused}
+use Rattle.hns_p2p_frame.specs.Pushed.{Pushed, Accepted, Refused}
 use Rattle.hns_p2p_frame.specs.Frame.{Frame, WellFormed, encodings, not_yet, front}
 use Rattle.hns_p2p_frame.specs.Conditions.{few}
 use Rattle.hns_p2p_frame.specs.Walk.{Walked, stopped, refused, cut, walk}

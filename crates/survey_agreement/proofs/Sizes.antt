@@ -11,8 +11,7 @@ use Rattle.hns_encoding.proofs.Outcomes.{choose_holds, choose_leb}
 use Rattle.hns_encoding.proofs.Puts.{length_splice}
 use Rattle.hns_p2p_frame.specs.declared.NetworkMagic.TheVariants.{Mainnet}
 use Rattle.hns_refusals.specs.Refusals.{number}
-use Rattle.hns_p2p_frame.specs.declared.Pushed.{Pushed}
-use Rattle.hns_p2p_frame.specs.declared.Pushed.TheVariants.{Accepted, Refused}
+use Rattle.hns_p2p_frame.specs.Pushed.{Pushed, Accepted, Refused}
 use Rattle.hns_p2p_frame.specs.Frame.{Frame, encodings}
 use Rattle.hns_p2p_frame.specs.Walk.{Walked, stopped, refused, cut, walk}
 use Rattle.hns_p2p_frame.specs.Push.{Result, settled, push}

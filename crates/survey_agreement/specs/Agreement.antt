@@ -5,7 +5,7 @@ use Rattle.hns_refusals.specs.Refusals as Refusals
 use Rattle.hns_encoding.specs.Bytes.{Bytes}
 use Rattle.hns_encoding.specs.Format.{All}
 use Rattle.hns_p2p_frame.specs.declared.NetworkMagic.TheVariants.{Mainnet}
-use Rattle.hns_p2p_frame.specs.declared.Pushed.TheVariants.{Accepted, Refused}
+use Rattle.hns_p2p_frame.specs.Pushed.{Accepted, Refused}
 use Rattle.hns_p2p_frame.specs.Frame.{Frame, WellFormed, encodings, not_yet}
 use Rattle.hns_p2p_frame.specs.Conditions.{FrontIs}
 use Rattle.hns_p2p_frame.specs.Push.{Result, push}

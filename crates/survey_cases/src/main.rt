@@ -9,7 +9,8 @@ use survey_export::Kept;
 
 const CHUNK: usize = 4_096;
 
-// The export of a log, by the survey program's steps, into `out`: its length. A log of full chunks alone ends with an empty one.
+// The export of a log, by the survey program's steps, into `out`: its length. What a step works with is lent one by one, since its promise
+// names each. A log of full chunks alone ends with an empty one.
 fn export(
     log: &[u8],
     store: &mut [u8],
@@ -44,6 +45,7 @@ fn show(rt: &impl Print, text: &[u8]) -> io::Result<()> {
     rt.write_all(last_line(text))
 }
 
+// Arrays, since there is no heap: all that a survey works with, and its export.
 fn survey(rt: &impl Print, name: &str, log: &[u8]) -> io::Result<()> {
     let mut store = [0xaau8; 24_576];
     let mut output = [0xaau8; 24_576];
@@ -54,6 +56,7 @@ fn survey(rt: &impl Print, name: &str, log: &[u8]) -> io::Result<()> {
     show(rt, hns_encoding::first(&out, n))
 }
 
+// Logs that end within a frame. Here and below each log is a call with its name and bytes; a table of them would have the same lines.
 fn begun(rt: &impl Print) -> io::Result<()> {
     survey(
         rt,
@@ -109,7 +112,7 @@ fn stopped(rt: &impl Print) -> io::Result<()> {
     )
 }
 
-// A frame with a payload of n bytes of 07, and then so many bytes of the next one's magic.
+// A frame with a payload of n bytes of 07, and then so many bytes of the next one's magic. Arrays again, for the longest.
 fn long_frame(rt: &impl Print, name: &str, n: usize, after: usize) -> io::Result<()> {
     let payload = [7u8; 24_600];
     let mut log = [0u8; 24_640];

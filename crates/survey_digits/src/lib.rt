@@ -1,4 +1,7 @@
 //! Digits of the exported survey: bytes in hexadecimal, a number in decimal, both by one formula.
+//!
+//! No Display: digits go into a lent text of bytes at a place, and std's formatting writes text that it has made by a table.
+//! A put takes the encoder by value beside the lent text, as the library's do (a form of document 01).
 #![tactic(auto)]
 
 ghost use Rattle.std.specs.Prelude.{◌≡◌, ◌*◌, ◌≤◌, ◌<◌, length};
@@ -8,8 +11,9 @@ ghost use Rattle.survey_digits.specs.Digits.{digit, hex, decimal};
 
 use hns_encoder::Encoder;
 
-// The digit of a value. What a letter has more is chosen and not jumped to: a run of digits is then compared, masked and
-// added many at a time, with no branch and no load. A table, as in the library's hex, takes twice as long (docs/SPEED.md).
+// The digit of a value, a byte of a byte, so that no From could say it. What a letter has more is chosen and not jumped to: a run of digits is then compared, masked and
+// added many at a time, with no branch and no load. A table, as in the library's hex, takes two to five times as long
+// (docs/SPEED.md).
 #[tactic(auto, using(crate::proofs::Digits::digit_low, crate::proofs::Digits::digit_high))]
 fn digit_of(value: u8) -> u8
     requires { value < 16 }
@@ -56,7 +60,7 @@ pub fn put_hex(encoder: Encoder, out: &mut [u8], bytes: &[u8]) -> Encoder
 }
 
 // A number in decimal, its digits by the same formula (the library's have a table). They come lowest first and to an unknown
-// place, so the place is counted down by hand.
+// place, so the place is counted down by hand, in an array of the longest number's size: there is no heap.
 pub fn put_decimal(encoder: Encoder, out: &mut [u8], n: u64) -> Encoder
     ensures { Put out.old encoder.position (decimal n) out.new result.position }
 {

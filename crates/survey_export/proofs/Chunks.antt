@@ -11,10 +11,13 @@ use Rattle.hns_refusals.specs.Refusals.{number}
 use Rattle.hns_encoding.specs.Put.{Put, advance}
 use Rattle.hns_encoding.proofs.Puts.{then}
 use Rattle.hns_p2p_frame.specs.declared.NetworkMagic.TheVariants.{Mainnet}
-use Rattle.hns_p2p_frame.specs.declared.Pushed.{Pushed}
-use Rattle.hns_p2p_frame.specs.declared.Pushed.TheVariants.{Accepted, Refused}
+use Rattle.hns_p2p_frame.specs.declared.Frames.{Frames}
+use Rattle.hns_p2p_frame.specs.declared.Pushed as code
+use Rattle.hns_p2p_frame.specs.Pushed.{Pushed, Accepted, Refused}
+use Rattle.hns_p2p_frame.specs.Answers.{pushed_of}
 use Rattle.hns_p2p_frame.specs.Walk.{cut}
 use Rattle.hns_p2p_frame.specs.Push.{push}
+use Rattle.hns_p2p_frame.proofs.Told.{pushed_accepted, pushed_refused}
 use Rattle.survey_export.specs.declared.Kept.{Kept}
 use Rattle.survey_export.specs.declared.Step.{Step}
 use Rattle.survey_export.specs.Text.{stop_line}
@@ -23,18 +26,18 @@ use Rattle.survey_export.specs.Helpers.{push_text, placed_by, PushesChunk, Finis
 
 module _ (s : List ℕ) (h : ℕ) (x o t : List ℕ) (q : ℕ) where
   -- r is what the push answered, and s' and o' are what it left
-  module _ {r : Pushed} {s' o' : List ℕ} (a : r ≡ (push Mainnet s h x o).answer) (b : s' ≡ (push Mainnet s h x o).store) (c : o' ≡ (push Mainnet s h x o).output) where
-    pub accepted : {n k g : ℕ} → r ≡ Accepted n k g → {y : List ℕ} → y ≡ take k o' → {t' : List ℕ} {q' : ℕ} → Put t q (lines (cut Mainnet y).frames) t' q' → PushesChunk s h x o t q (Ok (record { held = g; position = q' })) s' o' t'
+  module _ {r : code.Pushed} {s' o' : List ℕ} (a : r ≡ pushed_of (push Mainnet s h x o).answer) (b : s' ≡ (push Mainnet s h x o).store) (c : o' ≡ (push Mainnet s h x o).output) where
+    pub accepted : {f : Frames} → r.delivered ≡ Ok f → {y : List ℕ} → y ≡ take f.bytes o' → {t' : List ℕ} {q' : ℕ} → Put t q (lines (cut Mainnet y).frames) t' q' → PushesChunk s h x o t q (Ok (record { held = r.held; position = q' })) s' o' t'
     unfolding push_text placed_by
-    accepted {n} {k} {g} e {y} f put =
-        let is : (push Mainnet s h x o).answer ≡ Accepted n k g = sym a ∙ e in
-        let front : y ≡ take k (push Mainnet s h x o).output = f ∙ ap (take k) c in
+    accepted {f} e {y} g put =
+        let is : (push Mainnet s h x o).answer ≡ Accepted f.frames f.bytes r.held = pushed_accepted (push Mainnet s h x o).answer a e in
+        let front : y ≡ take f.bytes (push Mainnet s h x o).output = g ∙ ap (take f.bytes) c in
         record { answer = rw (is, put.next, front); store = b; output = c; text = rw is (rw front at put.bytes) }
 
-    pub refused : {v : Refusal} {g n : ℕ} → r ≡ Refused v g → n ≡ number v → {t' : List ℕ} {q' : ℕ} → Put t q (stop_line n) t' q' → PushesChunk s h x o t q (Err q') s' o' t'
+    pub refused : {v : Refusal} {n : ℕ} → r.delivered ≡ Err v → n ≡ number v → {t' : List ℕ} {q' : ℕ} → Put t q (stop_line n) t' q' → PushesChunk s h x o t q (Err q') s' o' t'
     unfolding push_text placed_by
-    refused {v} {g} e m put =
-        let is : (push Mainnet s h x o).answer ≡ Refused v g = sym a ∙ e in
+    refused {v} e m put =
+        let is : (push Mainnet s h x o).answer ≡ Refused v r.held = pushed_refused (push Mainnet s h x o).answer a e in
         let place : Put t q (stop_line (number v)) _ _ = rw m at put in
         record { answer = rw (is, place.next); store = b; output = c; text = rw is place.bytes }
 
@@ -43,12 +46,12 @@ module _ (s : List ℕ) (h : ℕ) (x o t : List ℕ) (q : ℕ) where
   -- what the function ensures
   abbrev Met : Step → List ℕ → List ℕ → List ℕ → Type 0
   Met r s' o' t' =
-      (r ≡ (take_chunk s h x o t q).answer) × ((s' ≡ (take_chunk s h x o t q).store) × ((o' ≡ (take_chunk s h x o t q).output) × (t' ≡ (take_chunk s h x o t q).text)))
+      record { value : r ≡ (take_chunk s h x o t q).answer; store_after : s' ≡ (take_chunk s h x o t q).store; output_after : o' ≡ (take_chunk s h x o t q).output; text_after : t' ≡ (take_chunk s h x o t q).text }
 
   -- the chunk c puts y
   met : (c : Chunk) → chunk s h x o ≡ c → {y t' : List ℕ} {q' : ℕ} → added_text c.added ≡ y → Put t q y t' q' → {r : Step} → r ≡ step_by c.added q' → Met r c.store c.output t'
   unfolding take_chunk
-  met c is e put f = rw (is, e) (f ∙ ap (step_by c.added) put.next, (refl, (refl, put.bytes)))
+  met c is e put f = rw (is, e) (record { value = f ∙ ap (step_by c.added) put.next; store_after = refl; output_after = refl; text_after = put.bytes })
 
   pub log_over : length x ≡ 0 → {r : Step} {t' : List ℕ} → Finishes t h q r t' → Met r s o t'
   unfolding chunk added_text lines last_text step_by

@@ -1,4 +1,7 @@
 //! The exported survey: its lines, and the step that takes a chunk of a log.
+//!
+//! A put takes the encoder by value beside the lent text and hands the next one back, as the library's do (a form of document 01).
+//! Store, output and text are lent one by one and of any length, as the push lends its own, for a caller with no heap.
 #![tactic(auto)]
 
 ghost use Rattle.std.specs.Prelude.{◌≡◌};
@@ -10,16 +13,17 @@ ghost use Rattle.survey_export.specs.Helpers.{PushesChunk, Finishes};
 ghost use Rattle.survey_export.specs.Text.{hex_payload, line, last_line, held_line, stop_line};
 
 use hns_encoder::Encoder;
-use hns_p2p_frame::{NetworkMagic, Pushed};
+use hns_p2p_frame::NetworkMagic;
 
-// How far a survey is: the held count of its stream, and where its text goes on.
+// How far a survey is: the held count of its stream, and where its text goes on, as numbers beside what the program lends.
 #[derive(Clone, Copy, Debug, Default, PartialEq, Eq)]
 pub struct Kept {
     pub held: usize,
     pub position: usize,
 }
 
-// What is to do after a chunk: the first `write` bytes of the text are written out, and the survey goes on, or it is over.
+// What is to do after a chunk: the first `write` bytes of the text are written out, and the survey goes on, or it is over. A number,
+// since the text is the caller's.
 #[derive(Clone, Copy, Debug, PartialEq, Eq)]
 pub struct Step {
     pub write: usize,
@@ -43,7 +47,7 @@ fn put_payload(encoder: Encoder, out: &mut [u8], payload: &[u8]) -> Encoder
     survey_digits::put_hex(e, out, payload)
 }
 
-// The line of a frame.
+// The line of a frame, by its two parts: the payload stays in the output that is lent.
 pub fn put_line(encoder: Encoder, out: &mut [u8], packet_type: u8, payload: &[u8]) -> Encoder
     ensures { Put out.old encoder.position (line packet_type payload.now) out.new result.position }
 {
@@ -63,7 +67,7 @@ fn put_last(encoder: Encoder, out: &mut [u8], word: &[u8], n: u64) -> Encoder
     e.put_u8(out, 10)
 }
 
-// The last line of a survey whose pushes were all accepted.
+// The last line of a survey whose pushes were all accepted. It and the next are one call each, with the word that their promise names.
 #[tactic(auto, unfolding(crate::specs::Text::held_line))]
 pub fn put_held(encoder: Encoder, out: &mut [u8], held: u64) -> Encoder
     ensures { Put out.old encoder.position (held_line held) out.new result.position }
@@ -79,7 +83,7 @@ pub fn put_stop(encoder: Encoder, out: &mut [u8], number: u64) -> Encoder
     put_last(encoder, out, b"stop ", number)
 }
 
-// The lines of the frames that a slice begins with.
+// The lines of the frames that a slice begins with. `at` goes on by each frame's own length, so that no iterator of std's counts it.
 fn put_lines(encoder: Encoder, out: &mut [u8], frames: &[u8]) -> Encoder
     ensures { Put out.old encoder.position (lines (cut Mainnet frames.now).frames) out.new result.position }
 {
@@ -98,7 +102,7 @@ fn put_lines(encoder: Encoder, out: &mut [u8], frames: &[u8]) -> Encoder
 }
 
 // Pushes bytes of a mainnet log, and puts the lines of what that delivered, or the line of its refusal, into the text: how
-// far the survey is then, or where the text ends.
+// far the survey is then, or where the text ends. A Result, since a push is refused or not; the refusal is in the text by then.
 fn push_chunk(
     store: &mut [u8],
     kept: Kept,
@@ -111,15 +115,16 @@ fn push_chunk(
     let encoder = Encoder {
         position: kept.position,
     };
-    match hns_p2p_frame::push(NetworkMagic::Mainnet, store, kept.held, chunk, output) {
-        Pushed::Accepted { bytes, held, .. } => {
-            let e = put_lines(encoder, text, hns_encoding::first(output, bytes));
+    let pushed = hns_p2p_frame::push(NetworkMagic::Mainnet, store, kept.held, chunk, output);
+    match pushed.delivered {
+        Ok(frames) => {
+            let e = put_lines(encoder, text, hns_encoding::first(output, frames.bytes));
             Ok(Kept {
-                held,
+                held: pushed.held,
                 position: e.position,
             })
         }
-        Pushed::Refused { refusal, .. } => {
+        Err(refusal) => {
             let e = put_stop(encoder, text, refusal.number());
             Err(e.position)
         }
@@ -140,8 +145,8 @@ fn finish(text: &mut [u8], kept: Kept) -> Step
     }
 }
 
+// After the lines of a full chunk: the text is kept for more, or written out and begun again. No From, since it chooses by how long the text is.
 #[tactic(auto, using(crate::proofs::Parts::text_kept, crate::proofs::Parts::text_begun))]
-// After the lines of a full chunk: the text is kept for more, or written out and begun again.
 fn onward(kept: Kept) -> Step
     ensures { result ≡ goes_on_at kept.held kept.position }
 {
@@ -178,6 +183,7 @@ pub fn take_chunk(
         return finish(text, kept);
     }
     match push_chunk(store, kept, chunk, output, text) {
+        // no refusal is handed on here: its line is in the text, and this is where that ends
         Err(write) => Step { write, next: None },
         Ok(lined) if chunk.len() < CHUNK => finish(text, lined),
         Ok(lined) => onward(lined),

@@ -5,16 +5,16 @@ use Rattle.hns_p2p_frame.proofs.Settles.{refuses, within, delivers}
 use Rattle.hns_p2p_frame.proofs.settle.Goals as goal
 
 -- the frames' bytes are within those that were walked
-pub overflow_sub-held : goal.overflow_sub-held
-overflow_sub-held c = within c.args.network _ _ c.args.output.now c.requires.0 (λ i. search rules) c.walk_frames.ensures c.in-Ok.is
+pub overflow_sub-left : goal.overflow_sub-left
+overflow_sub-left c = within c.args.network _ _ c.args.output.now c.requires.0 (λ i. search rules) c.walk_frames.ensures c.in_ok-delivered.was
 
 pub deliver-requires : goal.deliver-requires
 deliver-requires c =
-    let inside = within c.args.network _ _ c.args.output.now c.requires.0 (λ i. search rules) c.walk_frames.ensures c.in-Ok.is in
+    let inside = within c.args.network _ _ c.args.output.now c.requires.0 (λ i. search rules) c.walk_frames.ensures c.in_ok-delivered.was in
     (omega arith, omega arith)
 
-pub returns-in-Err : goal.returns-in-Err
-returns-in-Err c = refuses _ _ _ _ c.requires.0 (λ i. search rules) c.walk_frames.ensures c.in-Err.is
+pub returns-in_err-delivered : goal.returns-in_err-delivered
+returns-in_err-delivered c = refuses _ _ _ _ c.requires.0 (λ i. search rules) c.walk_frames.ensures c.in_err-delivered.was (search rules)
 
-pub returns-in-Ok : goal.returns-in-Ok
-returns-in-Ok c = delivers _ _ _ _ c.requires.0 (λ i. search rules) c.walk_frames.ensures c.in-Ok.is c.deliver.ensures.store_after c.deliver.ensures.output_after
+pub returns : goal.returns
+returns c = delivers _ _ _ _ c.requires.0 (λ i. search rules) c.walk_frames.ensures c.in_ok-delivered.was c.deliver.ensures.store_after c.deliver.ensures.output_after

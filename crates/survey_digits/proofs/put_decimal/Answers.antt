@@ -5,7 +5,6 @@ use mathlib.Core.List.{append-nil}
 use native.Mathlib.Omega.{arith}
 use lib.ListN.{take, drop, set, length-set, length-drop}
 use lib.Seq.{take_all}
-use Rattle.hns_encoding.proofs.Puts.{put_length}
 use Rattle.survey_digits.specs.Digits.{decimal}
 use Rattle.survey_digits.proofs.Digits.{digit_low, rest_turn, decimal_turn, decimal_end}
 use Rattle.survey_digits.proofs.put_decimal.Goals as goal
@@ -13,9 +12,6 @@ use Rattle.survey_digits.proofs.put_decimal.Goals as goal
 pub loop-rest-init : goal.loop-rest-init
 unfolding decimal
 loop-rest-init c = (omega arith, (refl, (omega arith, append-nil _)))
-
-pub overflow_sub-i : goal.overflow_sub-i
-overflow_sub-i c = omega (arith, rest_turn c.loop-rest.i c.loop-rest.rest c.loop-rest-test.true c.loop-rest.invariant.1.1.0)
 
 pub loop-rest-preserved : goal.loop-rest-preserved
 loop-rest-preserved c =
@@ -33,6 +29,3 @@ returns c =
     take_all (20 - l.i) _ (simp (length-drop, length-set) (omega (arith, l.invariant.1.0))) in
     let digits = decimal_end l.i a.n l.rest l.text e.loop-rest-test.false (omega arith) (e.digit_of-2.ensures ∙ digit_low _ (omega arith)) l.invariant.1.1.1 in
     rw (all, digits) at c.put_bytes.ensures
-
-pub shape_of-out : goal.shape_of-out
-shape_of-out c = put_length (returns c)

@@ -2,14 +2,8 @@
 use Rattle.survey_export.proofs.Chunks.{accepted, refused}
 use Rattle.survey_export.proofs.push_chunk.Goals as goal
 
-pub returns-in-Accepted : goal.returns-in-Accepted
-returns-in-Accepted c =
-    let a = c.args in
-    let p = c.push.ensures in
-    accepted a.store.now a.kept.held a.chunk.now a.output.now a.text.now a.kept.position p.value p.store_after p.output_after c.in-Accepted.is c.first.ensures c.put_lines-e.ensures
+pub returns-in-Ok : goal.returns-in-Ok
+returns-in-Ok c = let p = c.push-pushed.ensures in accepted _ _ _ _ _ _ p.value p.store_after p.output_after c.in-Ok.is c.first.ensures c.put_lines-e.ensures
 
-pub returns-in-Refused : goal.returns-in-Refused
-returns-in-Refused c =
-    let a = c.args in
-    let p = c.push.ensures in
-    refused a.store.now a.kept.held a.chunk.now a.output.now a.text.now a.kept.position p.value p.store_after p.output_after c.in-Refused.is c.number.ensures c.put_stop-e.ensures
+pub returns-in-Err : goal.returns-in-Err
+returns-in-Err c = let p = c.push-pushed.ensures in refused _ _ _ _ _ _ p.value p.store_after p.output_after c.in-Err.is c.number.ensures c.put_stop-e.ensures

@@ -4,26 +4,15 @@ use Rattle.survey_export.proofs.Chunks.{log_over, stopped, ended, onwards}
 use Rattle.survey_export.proofs.take_chunk.Goals as goal
 
 pub returns-then-is_empty : goal.returns-then-is_empty
-returns-then-is_empty c =
-    let a = c.args in
-    let owed = log_over a.store.now a.kept.held a.chunk.now a.output.now a.text.now a.kept.position (search rules) c.finish.ensures in
-    record { value = owed.0; store_after = owed.1.0; output_after = owed.1.1.0; text_after = owed.1.1.1 }
+returns-then-is_empty c = log_over _ _ _ _ _ _ (search rules) c.finish.ensures
 
 pub returns-in-Err : goal.returns-in-Err
-returns-in-Err c =
-    let a = c.args in
-    let owed = stopped a.store.now a.kept.held a.chunk.now a.output.now a.text.now a.kept.position (search rules) c.push_chunk.ensures c.in-Err.is in
-    record { value = owed.0; store_after = owed.1.0; output_after = owed.1.1.0; text_after = owed.1.1.1 }
+returns-in-Err c = stopped _ _ _ _ _ _ (search rules) c.push_chunk.ensures c.in-Err.is
 
 pub returns-in-Ok : goal.returns-in-Ok
 returns-in-Ok c =
-    let a = c.args in
-    let room : length a.text.now < 2 ^ 64 = omega arith in
-    let owed = ended a.store.now a.kept.held a.chunk.now a.output.now a.text.now a.kept.position (search rules) c.push_chunk.ensures c.in-Ok.is c.if-chunk-lt-CHUNK.true room c.finish-in-Ok.ensures in
-    record { value = owed.0; store_after = owed.1.0; output_after = owed.1.1.0; text_after = owed.1.1.1 }
+    let room : length c.args.text.now < 2 ^ 64 = omega arith in
+    ended _ _ _ _ _ _ (search rules) c.push_chunk.ensures c.in-Ok.is c.if-chunk-lt-CHUNK.true room c.finish-in-Ok.ensures
 
 pub returns-in-Ok-2 : goal.returns-in-Ok-2
-returns-in-Ok-2 c =
-    let a = c.args in
-    let owed = onwards a.store.now a.kept.held a.chunk.now a.output.now a.text.now a.kept.position (search rules) c.push_chunk.ensures c.in-Ok.is c.if-chunk-lt-CHUNK.false c.onward.ensures in
-    record { value = owed.0; store_after = owed.1.0; output_after = owed.1.1.0; text_after = owed.1.1.1 }
+returns-in-Ok-2 c = onwards _ _ _ _ _ _ (search rules) c.push_chunk.ensures c.in-Ok.is c.if-chunk-lt-CHUNK.false c.onward.ensures
