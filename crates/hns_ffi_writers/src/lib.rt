@@ -71,6 +71,7 @@ pub extern "C" fn hns_write_headers(items: &[u8], out: &mut [u8], answer: &mut [
     hns_rows::put_row(answer, hns_rows::of_count(encoded));
 }
 
+#[tactic(auto, using(hns_p2p_writer::proofs::Lengths::flag_given))]
 #[unsafe(no_mangle)]
 pub extern "C" fn hns_write_reject(
     message: u8,
@@ -84,8 +85,8 @@ pub extern "C" fn hns_write_reject(
     ensures answer_after { answer.new ≡ answered answer.old (count_row (gives_reject message code reason.now present (raw_at 32 hash.now 0) out.old).answer) }
     ensures out_after { out.new ≡ (gives_reject message code reason.now present (raw_at 32 hash.now 0) out.old).output }
 {
-    let carried = hns_encoding::array_at(hash, 0);
-    let encoded = hns_p2p_writer::write_reject(message, code, reason, present, carried, out);
+    let carried = present.then_some(hns_encoding::array_at(hash, 0));
+    let encoded = hns_p2p_writer::write_reject(message, code, reason, carried, out);
     hns_rows::put_row(answer, hns_rows::of_count(encoded));
 }
 

@@ -1,18 +1,20 @@
 //! Puts of payloads of fixed fields and texts, by a cursor: each has the contract of one put, so that a payload can follow a
-//! frame's header.
+//! frame's header. The cursor goes by value beside the lent output, a rule of the project: each put hands the next one back.
+//! Types of few fields take them one by one, as C lends them: a struct would be made for the call and taken apart here.
 #![tactic(auto)]
 
-ghost use Rattle.std.specs.Prelude.{◌≡◌, ◌∷◌, length, take};
+ghost use Rattle.std.specs.Prelude.{◌≡◌, [], ◌∷◌, length, take};
+ghost use Rattle.std.specs.Option.{unwrap_or};
 ghost use Rattle.hns_refusals.specs.Limits.{max_text};
-ghost use Rattle.hns_encoding.specs.Bytes.{choose};
-ghost use Rattle.hns_encoding.specs.Format.{host, flag, raw, nothing, write};
+ghost use Rattle.hns_encoding.specs.Format.{host, flag, write};
 ghost use Rattle.hns_encoding.specs.Put.{Put};
 ghost use Rattle.hns_p2p_types.specs.Protocol.{address, version, reject, sendcmpct, getproof};
-ghost use Rattle.hns_p2p_block_puts.specs.Fields.{address_of, version_of, hash_if, reject_of};
+ghost use Rattle.hns_p2p_block_puts.specs.Fields.{address_of, version_of, reject_of};
 
 use hns_encoder::Encoder;
 
-#[derive(Clone, Copy, Debug, PartialEq, Eq)]
+// No `Model` hides the fields: contracts of hns_p2p_fields name them, and a flat list's item keeps all 64 bits of services.
+#[derive(Clone, Copy, Debug, Default, PartialEq, Eq)]
 pub struct AddressFields {
     pub time: u64,
     pub services: u64,
@@ -22,7 +24,7 @@ pub struct AddressFields {
 }
 
 // The fields of a version but for the agent, which is lent beside them.
-#[derive(Clone, Copy, Debug, PartialEq, Eq)]
+#[derive(Clone, Copy, Debug, Default, PartialEq, Eq)]
 pub struct VersionFields {
     pub version: u32,
     pub services: u64,
@@ -69,13 +71,15 @@ fn put_text(encoder: Encoder, out: &mut [u8], text: &[u8]) -> Encoder
     e.put_bytes(out, text)
 }
 
+#[tactic(auto, using(crate::proofs::Texts::flag_is), unfolding(hns_encoding::specs::Format::write))]
 fn put_flag(encoder: Encoder, out: &mut [u8], set: bool) -> Encoder
     ensures { Put out.old encoder.position (write flag set) out.new result.position }
 {
     encoder.put_u8(out, u8::from(set))
 }
 
-// The 88 bytes of an address. The array's length is known, so no put of them tests it.
+// The 88 bytes of an address, put into zeros, as std joins no arrays without a heap. The array's length is known, so no put of
+// them tests it.
 fn address_block(fields: AddressFields) -> [u8; 88]
     ensures { result ≡ write address (address_of fields) }
 {
@@ -106,13 +110,12 @@ pub fn put_version(encoder: Encoder, out: &mut [u8], fields: VersionFields, agen
     put_flag(e, out, fields.no_relay)
 }
 
-fn put_hash(encoder: Encoder, out: &mut [u8], carries: bool, hash: [u8; 32]) -> Encoder
-    ensures { Put out.old encoder.position (write (choose carries (raw 32) nothing) (hash_if carries hash)) out.new result.position }
+fn put_hash(encoder: Encoder, out: &mut [u8], hash: Option<[u8; 32]>) -> Encoder
+    ensures { Put out.old encoder.position (unwrap_or hash []) out.new result.position }
 {
-    if carries {
-        encoder.put_array(out, hash)
-    } else {
-        encoder
+    match hash {
+        Some(hash) => encoder.put_array(out, hash),
+        None => encoder,
     }
 }
 
@@ -127,11 +130,11 @@ pub fn put_reject(
 ) -> Encoder
     ensures { Put out.old encoder.position (write reject (reject_of message code (take max_text reason.now) hash)) out.new result.position }
 {
-    let carries = hns_p2p_types::carries_reject_hash(message);
+    let carried = hns_p2p_types::carries_reject_hash(message).then_some(hash);
     let e = encoder.put_u8(out, message);
     let e = e.put_u8(out, code);
     let e = put_text(e, out, reason);
-    put_hash(e, out, carries, hash)
+    put_hash(e, out, carried)
 }
 
 pub fn put_sendcmpct(encoder: Encoder, out: &mut [u8], mode: u8, version: u64) -> Encoder

@@ -1,5 +1,5 @@
 -- A writer's arguments from a packet's numbers and places: an ip of two numbers, and the bytes that stand at a place, zeros where they are not all there.
-use Rattle.std.specs.Prelude.{ℕ, List, ◌++◌, replicate, Option, Some, None}
+use Rattle.std.specs.Prelude.{ℕ, List, ◌++◌, Option, Some, None}
 use Rattle.hns_encoding.specs.Bytes.{le_bytes, raw_at}
 use Rattle.hns_p2p_types.specs.declared.NetAddress.{NetAddress}
 use Rattle.hns_p2p_types.specs.declared.VersionPacket.{VersionPacket}
@@ -25,6 +25,6 @@ version_fields_in s v =
       no_relay = v.no_relay;
     }
 
-abbrev pub hash_in : List ℕ → Option ℕ → List ℕ
-hash_in s (Some p) = raw_at 32 s p
-hash_in s None = replicate 32 0
+abbrev pub hash_in : List ℕ → Option ℕ → Option (List ℕ)
+hash_in s (Some p) = Some (raw_at 32 s p)
+hash_in s None = None

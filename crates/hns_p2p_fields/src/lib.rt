@@ -8,6 +8,7 @@ use hns_encoder::Encoder;
 use hns_p2p_block_puts::{AddressFields, VersionFields};
 use hns_p2p_types::{NetAddress, VersionPacket};
 
+// Put into zeros, as std joins no arrays without a heap; and no u128, since what is promised is the bytes of two numbers.
 fn ip_bytes(first: u64, last: u64) -> [u8; 16]
     ensures { result ≡ ip_in first last }
 {
@@ -45,12 +46,10 @@ pub fn version_fields(payload: &[u8], version: VersionPacket) -> VersionFields
     }
 }
 
-// The hash at its place, zeros where there is none.
-pub fn hash_at(payload: &[u8], hash: Option<usize>) -> [u8; 32]
+// The hash at its place, if it has one.
+pub fn hash_at(payload: &[u8], hash: Option<usize>) -> Option<[u8; 32]>
     ensures { result ≡ hash_in payload.now hash }
 {
-    match hash {
-        Some(place) => hns_encoding::array_at(payload, place),
-        None => [0; 32],
-    }
+    let place = hash?;
+    Some(hns_encoding::array_at(payload, place))
 }

@@ -18,6 +18,7 @@ pub struct Inventory {
     pub hash: [u8; 32],
 }
 
+// The cursor goes by value beside the lent output, as in hns_p2p_block_puts.
 fn put_item(encoder: Encoder, out: &mut [u8], item: Inventory) -> Encoder
     ensures { Put out.old encoder.position (item_bytes item) out.new result.position }
 {

@@ -1,18 +1,18 @@
 -- Flat lists: what is copied is what is written item by item, and every item can be written. Assumes nothing.
 use Prim.Native.Nat.{ℕ, zero, suc, ◌+◌, ◌-◌, ◌*◌, ◌/◌, ◌%◌, ◌^◌, ◌≤◌, ◌<◌}
-use mathlib.Core.Path.{◌≡◌, refl, sym, ap, ap₂, ◌∙◌}
+use mathlib.Core.Path.{◌≡◌, refl, ap, ap₂, ◌∙◌}
 use mathlib.Core.List.{List, [], ◌∷◌, ◌++◌, map, append-nil, append_assoc}
 use native.Mathlib.Omega.{arith}
-use native.Mathlib.Nat.{suc-mul, div-mul-le_self, mul-le-mul_right, mul-div_cancel}
+use native.Mathlib.Nat.{suc-mul, div-mul-le_self, mul-div_cancel}
 use lib.ListN.{length, take, drop, replicate, length-append}
-use lib.Seq.{length-take-le, take-take, drop-drop}
+use lib.Seq.{length-take-le, drop-drop}
 use Rattle.std.specs.Simd.{first_chunks}
-use Rattle.hns_encoding.specs.Bytes.{Bytes, le, part, number_at, raw_at}
+use Rattle.hns_encoding.specs.Bytes.{Bytes, part, number_at, raw_at}
 use Rattle.hns_encoding.specs.Compact.{compact_bytes}
 use Rattle.hns_encoding.specs.Format.{Format, raw, whole, counted, Value, Fixed, fixed_flat, Fit, All, size, value_at, write, write_all, values_at}
 use Rattle.hns_encoding.specs.Marks.{Mark, keep, marks, mark_all}
-use Rattle.hns_encoding.proofs.Numbers.{part_add, part_length}
-use Rattle.hns_encoding.proofs.Reading.{number_there, raw_there}
+use Rattle.hns_encoding.proofs.Numbers.{part_add}
+use Rattle.hns_encoding.proofs.Reading.{raw_there, part_inside, number_inside}
 use Rattle.hns_encoding.proofs.Back.{back}
 use Rattle.hns_encoding.proofs.Blocks.{block_fits, fixed_length, length_all, length_values}
 use Rattle.hns_encoding.proofs.Forward.{forward, mark_keep}
@@ -67,9 +67,6 @@ module _ (s : List ℕ) (w : ℕ) where
   abbrev many : ℕ
   many = length s / w
 
-  pub copied_small : {limit : ℕ} → many ≤ limit → limit * w ≤ 1000000000 → many * w ≤ 1000000000
-  copied_small {limit} h k = omega (arith, mul-le-mul_right {m = many} {n = limit} w h)
-
   pub copied_inside : many * w ≤ length s
   copied_inside = div-mul-le_self (length s) w
 
@@ -91,23 +88,9 @@ module _ (s : List ℕ) (bs : Bytes s) where
 
 -- ---- addresses
 
-take_inside : (a m n : ℕ) (l : List ℕ) → a + m ≤ n → take m (drop a (take n l)) ≡ take m (drop a l)
-take_inside zero m n l h = take-take m n l (omega arith)
-take_inside (suc a) m zero l h = absurd (omega arith)
-take_inside (suc a) m (suc n) [] h = refl
-take_inside (suc a) m (suc n) (b ∷ l) h = take_inside a m n l (omega arith)
-
 module _ (s : List ℕ) (p : ℕ) (h : p + 67 ≤ length s) where
   abbrev item : List ℕ
   item = part s p 67
-
-  part_inside : (q n : ℕ) → q + n ≤ 67 → part item q n ≡ part s (p + q) n
-  part_inside q n k = take_inside q n 67 (drop p s) k ∙ ap (take n) (drop-drop q p s)
-
-  number_inside : (q n : ℕ) → q + n ≤ 67 → number_at n item q ≡ number_at n s (p + q)
-  number_inside q n k =
-      let long = part_length s p 67 (omega arith) in
-      number_there n item q (omega arith) ∙ ap le (part_inside q n k) ∙ sym (number_there n s (p + q) (omega arith))
 
   -- an item reads the same in a slice of its own
   item_same : value_at flat_address _ item 0 ≡ value_at flat_address _ s p
@@ -116,7 +99,7 @@ module _ (s : List ℕ) (p : ℕ) (h : p + 67 ≤ length s) where
       let p2 : p + 16 + 16 ≡ p + 32 = omega arith in
       let p3 : p + 32 + 2 ≡ p + 34 = omega arith in
       let here : p + 0 ≡ p = omega arith in
-      rw (p1, p2, p3, number_inside 0 8 (omega arith), number_inside 8 8 (omega arith), part_inside 16 16 (omega arith), number_inside 32 2 (omega arith), part_inside 34 33 (omega arith), here)
+      rw (p1, p2, p3, number_inside s p 67 0 8 (omega arith) (omega arith), number_inside s p 67 8 8 (omega arith) (omega arith), part_inside s p 67 16 16 (omega arith), number_inside s p 67 32 2 (omega arith) (omega arith), part_inside s p 67 34 33 (omega arith), here)
 
 -- what is put of an item of 67 bytes
 abbrev pub address_in : List ℕ → List ℕ

@@ -1,5 +1,5 @@
 //! Puts of payloads with a count, by a cursor: each has the contract of one put. Bytes after the last whole item of a flat
-//! list are not put.
+//! list are not put. The cursor goes by value beside the lent output, as in hns_p2p_block_puts.
 #![tactic(auto)]
 
 ghost use Rattle.std.specs.Prelude.{◌≡◌, ◌++◌, ◌*◌, ◌/◌, ◌≤◌, length, take};
@@ -16,7 +16,8 @@ use hns_p2p_block_puts::AddressFields;
 // The bytes of an address of a flat list: time 8, services 8, ip 16, port 2, key 33.
 const FLAT_ADDRESS: usize = 67;
 
-// The fields of an item, whose length is known: no read of them tests it.
+// The fields of an item, whose length is known: no read of them tests it. No `From`: the type is hns_p2p_block_puts', and the
+// layout a flat list's.
 fn fields_of(item: &[u8; FLAT_ADDRESS]) -> AddressFields
     ensures { address_of result ≡ low_services (value_at flat_address _ item.now 0) }
 {
@@ -41,7 +42,8 @@ pub fn put_addr(encoder: Encoder, out: &mut [u8], items: &[u8]) -> Encoder
     e
 }
 
-// Whole items are in the payload byte for byte, so they are copied at once; then what follows them.
+// Whole items, counted by their width, are in the payload byte for byte, so they are copied at once, cut as bytes: std makes no
+// bytes of chunks again. Then what follows them.
 fn put_flat(encoder: Encoder, out: &mut [u8], items: &[u8], width: usize, last: &[u8]) -> Encoder
     requires { 1 ≤ width }
     ensures { Put out.old encoder.position (compact_bytes (length items.now / width) ++ (take (length items.now / width * width) items.now ++ last.now)) out.new result.position }
@@ -52,7 +54,7 @@ fn put_flat(encoder: Encoder, out: &mut [u8], items: &[u8], width: usize, last: 
     e.put_bytes(out, last)
 }
 
-// Whole items of 36 bytes: kind 4, hash 32.
+// Whole items of 36 bytes: kind 4, hash 32. The lists by type are each one call with its type's width, under its name.
 pub fn put_inventory(encoder: Encoder, out: &mut [u8], items: &[u8]) -> Encoder
     ensures { Put out.old encoder.position (write inventory (inventory_of items.now)) out.new result.position }
 {

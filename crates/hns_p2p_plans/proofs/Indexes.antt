@@ -53,9 +53,6 @@ pub record Tested (s : List ℕ) (base size i : ℕ) : Type 0 where
   pub rest : rising i base (drop i s) ≡ rising 0 0 s
   pub sum : size + length (differences base (drop i s)) ≡ length (differences 0 s)
 
-pub tested_none : (s : List ℕ) → length s ≤ 16662 → Tested s 0 0 0
-tested_none s h = record { few = h; small = omega arith; rest = refl; sum = omega arith }
-
 pub too_many : (s : List ℕ) → 16662 < length s → Err (too_many_indexes (length s)) ≡ plan_of (index_tests s) (length (differences 0 s))
 unfolding index_tests few_indexes first plan_of
 too_many s h = rw (lt-leb _ _ h)

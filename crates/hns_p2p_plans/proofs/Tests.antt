@@ -1,8 +1,8 @@
 -- The tests of a writer and its plan: when each passes and refuses. Assumes nothing.
-use Prim.Native.Nat.{ℕ, ◌+◌, ◌*◌, ◌≤◌, ◌<◌}
+use Prim.Native.Nat.{ℕ, ◌*◌, ◌≤◌, ◌<◌}
 use mathlib.Core.Path.{◌≡◌, refl, sym, ◌∙◌}
 use native.Mathlib.Omega.{arith}
-use native.Mathlib.Nat.{add-zero, mul-le-mul_right}
+use native.Mathlib.Nat.{mul-le-mul_right}
 use lib.Dec.{leb}
 use mathlib.Core.Bool.{Bool, true, false}
 use borrow.Author.Tests.{le-leb, lt-leb, leb-true}
@@ -45,10 +45,6 @@ module _ (tests : Answer (Unit {0})) (n there : ℕ) {told : Answer (Unit {0})} 
 
   pub passed_by : told ≡ Ok tt → {m : ℕ} {plan : Answer ℕ} → plan ≡ planned (Ok tt) m there → m ≡ n → plan ≡ planned tests n there
   passed_by q p same = rw (← e, q, ← same) p
-
--- no byte follows the items
-pub no_rest : (tests : Answer (Unit {0})) (n there : ℕ) {plan : Answer ℕ} → plan ≡ planned tests (n + 0) there → plan ≡ planned tests n there
-no_rest tests n there e = rw (add-zero n) at e
 
 pub plan_of_write : (k : Answer (Unit {0})) (n : ℕ) {m : ℕ} → plan_of k n ≡ Ok m → (k ≡ Ok tt) × (m ≡ n)
 unfolding plan_of

@@ -116,7 +116,3 @@ module _ (t : ℕ) (reason : List ℕ) (present : Bool) (n there : ℕ) {told : 
 pub reject_short : (t : ℕ) (reason : List ℕ) (present : Bool) → reject_tests t reason present ≡ Ok tt → length reason ≤ 255
 unfolding reject_tests
 reject_short t reason present e = (text_fit 8 reason (first_passed (text_tests 8 reason) _ e).0).0
-
-pub choose_small : (b : Bool) → choose b 32 0 ≤ 32
-choose_small true = omega arith
-choose_small false = omega arith

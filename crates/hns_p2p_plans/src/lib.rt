@@ -1,4 +1,5 @@
-//! What a writer tests before it stores a byte: how long the payload is to be, or the refusal.
+//! What a writer tests before it stores a byte: how long the payload is to be, or the refusal. `there` is the output's length:
+//! a plan writes nothing, so it is lent no output.
 #![tactic(auto)]
 
 ghost use Rattle.std.specs.Prelude.{◌≡◌, ◌+◌, ◌*◌, ◌≤◌, length, Ok};
@@ -18,7 +19,7 @@ use hns_refusals::{
     ADDRESS_FIELD, AGENT_FIELD, HEADER_FIELD, INVENTORY_FIELD, LOCATOR_FIELD, REASON_FIELD, Refusal,
 };
 
-// Refusal 7: more than so many.
+// Refusal 7: more than so many. Here and below a field's code is a number, as in the refusal: it is value c of its row for C.
 #[tactic(auto, using(crate::proofs::Tests::within_limit, crate::proofs::Tests::over))]
 fn check_within(actual: usize, maximum: usize, field: u64) -> Result<(), Refusal>
     ensures { result ≡ within actual maximum field }
@@ -45,7 +46,7 @@ fn check_text(text: &[u8], field: u64) -> Result<(), Refusal>
     Ok(())
 }
 
-// Refusal 11: a hash is there exactly where the type carries one.
+// Refusal 11: a hash is there exactly where the type carries one. No hash stands beside the flags, which are all that is compared.
 #[tactic(auto, using(crate::proofs::Texts::same_hash, crate::proofs::Texts::other_hash))]
 fn check_hash(carries: bool, present: bool) -> Result<(), Refusal>
     ensures { result ≡ hash_test carries present }
@@ -127,6 +128,7 @@ fn plan_list(
     plan_room(compact_length(count as u64) + count * width + after, there)
 }
 
+// The lists by type, each one call with its type's limit, field and width, so that no caller has these.
 pub fn plan_addr(count: usize, there: usize) -> Result<usize, Refusal>
     ensures { result ≡ planned (within count max_addresses address_field) (length (compact_bytes count) + count * 88) there }
 {
@@ -168,6 +170,7 @@ pub fn plan_version(agent: &[u8], there: usize) -> Result<usize, Refusal>
     plan_room(122 + agent.len(), there)
 }
 
+// A plan writes nothing, so it takes whether there is a hash, and not the hash.
 #[tactic(auto, using(crate::proofs::Texts::reject_text, crate::proofs::Texts::reject_hash))]
 pub fn plan_reject(
     message: u8,

@@ -8,7 +8,8 @@ use native.Mathlib.Nat.{zero-add}
 use lib.ListN.{length, get_or, take, drop, length-append, length-take, length-drop}
 use lib.Seq.{take_all, take-append_seam, drop-append_seam}
 use borrow.Author.Tests.{le-leb}
-use Rattle.std.specs.Prelude.{Result, Ok, Err, Some, None, is_some}
+use Rattle.std.specs.Prelude.{Result, Ok, Err, Some, None, is_some, replicate}
+use Rattle.std.specs.Option.{unwrap_or}
 use Rattle.hns_refusals.specs.declared.Refusal.{Refusal}
 use Rattle.hns_refusals.specs.Limits.{max_payload, max_addresses, max_inventory, max_headers, block_header_size}
 use Rattle.hns_refusals.specs.Refusals.{address_field, inventory_field, header_field}
@@ -50,7 +51,7 @@ use Rattle.hns_p2p_rewrite.proofs.Fields.{fields_there}
 -- of a packet, its payload s, the output x for its text and an output o: what the call gives that the code makes for it is w
 abbrev pub As : Packet → List ℕ → List ℕ → List ℕ → Written → Type 0
 As (P.Version v) s x o w = gives_version (version_fields_in s v) (take v.agent.length x) o ≡ w
-As (P.Reject r) s x o w = gives_reject r.message r.code (take r.reason.length x) (is_some r.hash) (hash_in s r.hash) o ≡ w
+As (P.Reject r) s x o w = gives_reject r.message r.code (take r.reason.length x) (is_some r.hash) (unwrap_or (hash_in s r.hash) (replicate 32 0)) o ≡ w
 As (P.Addr i) s x o w = (i.count ≤ max_addresses) × (i.first + i.count * 88 ≤ length s) × (gives_addr (flat_addresses (values_at address _ i.count s i.first)) o ≡ w)
 As (P.Inv i) s x o w = gives_inventory (drop i.first s) o ≡ w
 As (P.GetData i) s x o w = gives_inventory (drop i.first s) o ≡ w
@@ -177,12 +178,12 @@ version_said s bs v last e =
     rw remote
 
 hash_said : (b : Bool) (h : Value (choose b (raw 32) nothing)) (s : List ℕ) (p : ℕ) → standing s (hash_place (choose b (Some p) None)) ≡ rejected_part b h → Fit (choose b (raw 32) nothing) h
-    → (is_some (choose b (Some p) None) ≡ b) × (hash_in s (choose b (Some p) None) ≡ hash_of b h)
+    → (is_some (choose b (Some p) None) ≡ b) × (unwrap_or (hash_in s (choose b (Some p) None)) (replicate 32 0) ≡ hash_of b h)
 hash_said true h s p e fit = (refl, raw_is 32 s p (ap (λ (l : List (List ℕ)). get_or l 0 []) e) fit)
 hash_said false h s p e fit = (refl, refl)
 
 reject_said : (s : List ℕ) → Bytes s → length s ≤ max_payload → (v : Value reject) (last : ℕ) → to_end (read reject) s ≡ got v last
-    → (is_some (reject_packet s v).hash ≡ carries_hash v.0) × (hash_in s (reject_packet s v).hash ≡ hash_of (carries_hash v.0) v.1.1.1)
+    → (is_some (reject_packet s v).hash ≡ carries_hash v.0) × (unwrap_or (hash_in s (reject_packet s v).hash) (replicate 32 0) ≡ hash_of (carries_hash v.0) v.1.1.1)
 unfolding row rows raw_places columns parts_of
 reject_said s bs h v last e =
     hash_said (carries_hash v.0) v.1.1.1 s (length s - 32) (places_stand 15 s v last (by_reads (layout 15) s h e)).bytes (fit_of reject s bs v last e).1.1.1

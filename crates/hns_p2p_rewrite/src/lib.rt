@@ -1,7 +1,10 @@
-//! A payload that is read as a packet, and written again by the writer of its type, which is given what was read.
+//! A payload that is read as a packet, and written again by the writer of its type, which is given what was read. There is no
+//! heap: what a writer is lent stands in arrays of the most that its type can have, and items are places of the payload beside
+//! them. Terms, type and payload are parameters of their own, as C lends them (hns_p2p_admission).
 #![tactic(auto)]
 
-ghost use Rattle.std.specs.Prelude.{◌≡◌, ◌+◌, ◌*◌, ◌≤◌, length, take, drop, is_some};
+ghost use Rattle.std.specs.Prelude.{◌≡◌, ◌+◌, ◌*◌, ◌≤◌, length, take, drop, is_some, replicate};
+ghost use Rattle.std.specs.Option.{unwrap_or};
 ghost use Rattle.hns_refusals.specs.Limits.{max_addresses};
 ghost use Rattle.hns_encoding.specs.Bytes.{raw_at};
 ghost use Rattle.hns_encoding.specs.Format.{write, values_at};
@@ -37,6 +40,7 @@ fn rewrite_version(
     hns_p2p_writer::write_version(fields, agent, out)
 }
 
+// The cursor goes by value beside the lent output, as in hns_p2p_block_puts.
 fn put_flat_address(encoder: Encoder, out: &mut [u8], fields: AddressFields) -> Encoder
     ensures { Put out.old encoder.position (write flat_address (flat_fields fields)) out.new result.position }
 {
@@ -48,19 +52,13 @@ fn put_flat_address(encoder: Encoder, out: &mut [u8], fields: AddressFields) -> 
 }
 
 // The addresses of a payload as the items that their writer takes.
-fn put_flat_addresses(
-    encoder: Encoder,
-    out: &mut [u8],
-    payload: &[u8],
-    first: usize,
-    count: usize,
-) -> Encoder
-    requires { first + count * 88 ≤ length payload.now }
-    ensures { Put out.old encoder.position (flat_addresses (values_at address _ count payload.now first)) out.new result.position }
+fn put_flat_addresses(encoder: Encoder, out: &mut [u8], payload: &[u8], items: Items) -> Encoder
+    requires { items.first + items.count * 88 ≤ length payload.now }
+    ensures { Put out.old encoder.position (flat_addresses (values_at address _ items.count payload.now items.first)) out.new result.position }
 {
     let mut e = encoder;
-    for i in 0..count {
-        let address = hns_p2p_blocks::address_at(payload, first + i * NET_ADDRESS_SIZE);
+    for i in 0..items.count {
+        let address = hns_p2p_blocks::address_at(payload, items.first + i * NET_ADDRESS_SIZE);
         let fields = hns_p2p_fields::address_fields(payload, address);
         e = put_flat_address(e, out, fields);
     }
@@ -72,7 +70,7 @@ fn rewrite_addr(payload: &[u8], items: Items, out: &mut [u8]) -> Result<usize, R
     ensures { exit result out.new ≡ gives_addr (flat_addresses (values_at address _ items.count payload.now items.first)) out.old }
 {
     let mut flat = [0u8; 67_000];
-    let e = put_flat_addresses(Encoder::new(), &mut flat, payload, items.first, items.count);
+    let e = put_flat_addresses(Encoder::new(), &mut flat, payload, items);
     hns_p2p_writer::write_addr(hns_encoding::first(&flat, e.position), out)
 }
 
@@ -98,22 +96,15 @@ fn rewrite_reject(
     text: &[u8],
     out: &mut [u8],
 ) -> Result<usize, Refusal>
-    ensures { exit result out.new ≡ gives_reject reject.message reject.code (take reject.reason.length text.now) (is_some reject.hash) (hash_in payload.now reject.hash) out.old }
+    ensures { exit result out.new ≡ gives_reject reject.message reject.code (take reject.reason.length text.now) (is_some reject.hash) (unwrap_or (hash_in payload.now reject.hash) (replicate 32 0)) out.old }
 {
     let reason = hns_encoding::first(text, reject.reason.length);
     let hash = hns_p2p_fields::hash_at(payload, reject.hash);
-    hns_p2p_writer::write_reject(
-        reject.message,
-        reject.code,
-        reason,
-        reject.hash.is_some(),
-        hash,
-        out,
-    )
+    hns_p2p_writer::write_reject(reject.message, reject.code, reason, hash, out)
 }
 
 // The payload was admitted when it was read as a packet. Its indexes are read under no terms, under which every type may be
-// sent, so that the answer is document 01's.
+// sent, so that the answer is document 01's. What was filled is the array's front.
 fn rewrite_getblocktxn(payload: &[u8], out: &mut [u8]) -> Result<usize, Refusal>
     ensures { exit result out.new ≡ rewriting 24 payload.now out.old }
 {
@@ -131,7 +122,7 @@ fn rewrite_getproof(payload: &[u8], out: &mut [u8]) -> Result<usize, Refusal>
     hns_p2p_writer::write_getproof(root, key, out)
 }
 
-// The payload's own refusal, or what its writer answers; a refusal writes nothing.
+// The payload's own refusal, or what its writer answers; a refusal writes nothing. An arm is what its type is: its own writer.
 pub fn rewrite(
     terms: &[u64],
     packet_type: u8,

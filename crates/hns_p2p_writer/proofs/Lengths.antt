@@ -2,7 +2,7 @@
 use Prim.Native.Nat.{ℕ, ◌+◌, ◌*◌, ◌/◌}
 use mathlib.Core.Path.{◌≡◌, refl, sym}
 use mathlib.Core.Bool.{Bool, true, false}
-use mathlib.Core.List.{List, []}
+use mathlib.Core.List.{List, [], ◌∷◌, ◌++◌}
 use native.Mathlib.Omega.{arith}
 use lib.ListN.{length, get_or, take, length-append}
 use lib.Seq.{take_all}
@@ -14,10 +14,13 @@ use Rattle.hns_encoding.specs.Format.{raw, nothing, differences, write}
 use Rattle.hns_encoding.proofs.Numbers.{length_le_bytes, bytes_known}
 use Rattle.hns_encoding.proofs.Puts.{put_none}
 use Rattle.hns_p2p_types.specs.Protocol.{empty, addresses, inventory, locator, headers, version, reject, carries_hash, sendcmpct, getblocktxn, getproof}
-use Rattle.std.specs.Prelude.{Ok}
+use Rattle.std.specs.Prelude.{Ok, Err, is_some}
+use Rattle.std.specs.Option.{unwrap_or}
+use Rattle.std.specs.Bool.{then_some}
+use Rattle.hns_refusals.specs.Checks.{first}
 use Rattle.hns_refusals.specs.Refusals.{Answer}
 use Rattle.hns_encoding.specs.Put.{splice}
-use Rattle.hns_p2p_plans.specs.Tests.{planned, text_tests, reject_tests}
+use Rattle.hns_p2p_plans.specs.Tests.{planned, text_tests, hash_test, reject_tests}
 use Rattle.hns_p2p_plans.proofs.Tests.{has_room, plan_passed}
 use Rattle.hns_p2p_plans.proofs.Texts.{text_fit, reject_short}
 use Rattle.hns_p2p_block_puts.specs.declared.VersionFields.{VersionFields}
@@ -25,7 +28,8 @@ use Rattle.hns_p2p_block_puts.specs.Fields.{version_of, hash_if, reject_of}
 use Rattle.hns_p2p_list_puts.specs.Fields.{addresses_of, inventory_of, hashes_of, headers_of}
 use Rattle.hns_p2p_list_puts.proofs.Items as items
 use Rattle.hns_p2p_list_puts.proofs.Items.{length_copied, inventory_copied, locator_copied, headers_copied}
-use Rattle.hns_p2p_writer.specs.Writing.{exit, writing}
+use Rattle.hns_p2p_writer.specs.Writing.{exit, settle, writing}
+use Rattle.hns_p2p_writer.specs.Writers.{gives_reject}
 use Rattle.hns_p2p_writer.proofs.Writing.{written}
 
 -- ---- fixed fields
@@ -95,3 +99,19 @@ module _ (t code : ℕ) (reason hash : List ℕ) (present : Bool) (o : List ℕ)
   reject_written h z put =
       let all = take_all 255 reason (reject_short t reason present (plan_passed _ _ _ e q)) in
       written _ _ _ e q z (rw all at put) (length_reject t code reason hash h)
+
+-- a hash that the flag says is not there counts for nothing: the tests refuse, or no hash is written
+absent_by : (carries : Bool) (text : Answer (Unit {0})) (k : List ℕ → List ℕ) (h z o : List ℕ)
+    → (let x = λ (y : List ℕ). k (write (choose carries (raw 32) nothing) (hash_if carries y)) in writing (first text (hash_test carries false)) (x z) o ≡ writing (first text (hash_test carries false)) (x h) o)
+unfolding writing settle first hash_test write
+absent_by false text k h z o = refl
+absent_by true (Ok u) k h z o = refl
+absent_by true (Err r) k h z o = refl
+
+absent : (t code : ℕ) (reason : List ℕ) (h z o : List ℕ) → gives_reject t code reason false z o ≡ gives_reject t code reason false h o
+unfolding reject_tests write le_bytes carries_hash
+absent t code reason h z o = absent_by (carries_hash t) (text_tests 8 reason) (λ (y : List ℕ). t ∷ (le_bytes 1 code ++ (length reason ∷ reason) ++ y)) h z o
+
+pub flag_given : (t code : ℕ) (reason : List ℕ) (present : Bool) (h z o : List ℕ) → gives_reject t code reason (is_some (then_some present h)) (unwrap_or (then_some present h) z) o ≡ gives_reject t code reason present h o
+flag_given t code reason true h z o = refl
+flag_given t code reason false h z o = absent t code reason h z o

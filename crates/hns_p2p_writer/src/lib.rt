@@ -1,7 +1,10 @@
-//! Packet writers: a function for each type of payload. Each asks its plan first, so that a refusal writes nothing.
+//! Packet writers: a function for each payload that C can write, under C's name. Each asks its plan first, so that a refusal
+//! writes nothing; one function that took plan and put as closures would be no shorter at its calls. Types of few fields take
+//! them one by one, and a list is counted by its length, its items side by side in bytes: both are as C lends them.
 #![tactic(auto)]
 
-ghost use Rattle.std.specs.Prelude.{◌≡◌};
+ghost use Rattle.std.specs.Prelude.{◌≡◌, is_some, replicate};
+ghost use Rattle.std.specs.Option.{unwrap_or};
 ghost use Rattle.hns_p2p_writer.specs.Writing.{exit};
 ghost use Rattle.hns_p2p_writer.specs.Writers.{gives_version, gives_empty, gives_nonce, gives_addr, gives_inventory, gives_locator, gives_headers, gives_reject, gives_fee_filter, gives_send_cmpct, gives_get_block_txn, gives_get_proof, gives_raw};
 
@@ -19,6 +22,7 @@ pub fn write_version(fields: VersionFields, agent: &[u8], out: &mut [u8]) -> Res
 }
 
 // The types with an empty payload.
+#[tactic(auto, using(crate::proofs::Lengths::empty_written))]
 pub fn write_empty(out: &mut [u8]) -> Result<usize, Refusal>
     ensures { exit result out.new ≡ gives_empty out.old }
 {
@@ -75,20 +79,19 @@ pub fn write_headers(items: &[u8], out: &mut [u8]) -> Result<usize, Refusal>
     Ok(needed)
 }
 
-// The hash counts only where it is present.
 #[tactic(auto, using(crate::proofs::Writing::refused, crate::proofs::Lengths::reject_written, crate::proofs::Lengths::length_reject))]
 pub fn write_reject(
     message: u8,
     code: u8,
     reason: &[u8],
-    present: bool,
-    hash: [u8; 32],
+    hash: Option<[u8; 32]>,
     out: &mut [u8],
 ) -> Result<usize, Refusal>
-    ensures { exit result out.new ≡ gives_reject message code reason.now present hash out.old }
+    ensures { exit result out.new ≡ gives_reject message code reason.now (is_some hash) (unwrap_or hash (replicate 32 0)) out.old }
 {
-    let needed = hns_p2p_plans::plan_reject(message, reason, present, out.len())?;
-    hns_p2p_block_puts::put_reject(Encoder::new(), out, message, code, reason, hash);
+    let needed = hns_p2p_plans::plan_reject(message, reason, hash.is_some(), out.len())?;
+    let bytes = hash.unwrap_or([0; 32]);
+    hns_p2p_block_puts::put_reject(Encoder::new(), out, message, code, reason, bytes);
     Ok(needed)
 }
 

@@ -10,5 +10,5 @@ returns c =
     (c.put_u8-e.ensures
     ⨟ put_byte (omega arith) c.put_u8-e-2.ensures
     ⨟ c.put_text-e.ensures
-    ⨟ (λ h. hash_put c.args.message c.args.hash c.carries_reject_hash-carries.ensures c.put_hash.ensures))
+    ⨟ (λ h. hash_put c.args.message c.args.hash c.carries_reject_hash.ensures c.then_some-carried.ensures c.put_hash.ensures))
     (omega arith)

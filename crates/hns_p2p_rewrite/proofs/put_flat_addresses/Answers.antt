@@ -12,7 +12,7 @@ pub loop-i-preserved : goal.loop-i-preserved
 loop-i-preserved c =
     let z = c.args in
     let bytes : Bytes z.payload.now = bytes_known _ (λ i. (c.type_inv.payload i).fits) in
-    let step = flat_here z.payload.now bytes z.count z.first c.loop-i.i c.loop-i-test.true c.requires c.address_at-address.ensures c.address_fields-fields.ensures in
+    let step = flat_here z.payload.now bytes z.items.count z.items.first c.loop-i.i c.loop-i-test.true c.requires c.address_at-address.ensures c.address_fields-fields.ensures in
     one_put c.loop-i.invariant step c.put_flat_address-e.ensures
 
 pub returns : goal.returns
