@@ -1,2 +1,4 @@
 pub mod Zeros
 pub mod Outputs
+pub mod Questions
+pub mod Cases

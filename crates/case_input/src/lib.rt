@@ -1,12 +1,17 @@
 //! Cases of test programs: a line of standard input is a case in hexadecimal, and a program answers one after the other.
 #![tactic(auto)]
 
-ghost use Rattle.std.specs.Prelude.{◌≡◌, ◌+◌, ◌%◌, ◌<◌, ◌≤◌, length, drop, fold, slice_index, EachIndex};
-ghost use Rattle.hns_encoding.specs.Bytes.{number_at};
-ghost use Rattle.case_input.specs.Zeros.{Zeros, Around};
+ghost use Rattle.std.specs.Prelude.{◌≡◌, OnOk, IfOk, ◌+◌, ◌%◌, ◌<◌, ◌≤◌, length, take, drop, fold, slice_index, EachIndex};
+ghost use Rattle.std.specs.Fn.{FnOnceReturnsAt, CalledAt};
+ghost use Rattle.case_input.specs.Cases.{begun, with_digit, AnswersPart, AnswersRead};
+ghost use Rattle.case_input.specs.Zeros.{Zeros, Around, long_case};
 ghost use Rattle.case_input.specs.Outputs.{mixed};
+ghost use Rattle.case_input.specs.Questions.{asked_of, long_question};
 
 use std::io::{self, Read};
+
+// There is no heap: a case stands in a buffer that is lent, with its size beside it, and what is told of a buffer stands in each contract.
+// The language asks of a lent closure that it can be called, of each function that is lent one.
 
 // The line so far: how many bytes it has given, and the value of a digit behind them.
 #[derive(Clone, Copy, Debug, Default, PartialEq, Eq)]
@@ -15,26 +20,29 @@ struct Line {
     half: Option<u8>,
 }
 
-fn value_of(digit: u8) -> u8
-    ensures { result < 16 }
+// Takes a digit: two make a byte. One that there is no room for is passed over, and so is what is no digit.
+#[tactic(auto, using(crate::proofs::Cases::no_room, crate::proofs::Cases::no_digit, crate::proofs::Cases::first_digit, crate::proofs::Cases::second_digit))]
+fn take_digit(line: Line, digit: u8, case: &mut [u8]) -> Line
+    requires { line.size ≤ length case.old }
+    ensures room { length case.new ≡ length case.old }
+    ensures within { result.size ≤ length case.old }
+    ensures begun { begun result case.new ≡ with_digit (length case.old) (begun line case.old) digit }
 {
-    (digit % 16 + digit / 58 * 9) % 16
-}
-
-// Takes a digit: two make a byte. One that there is no room for is passed over.
-fn take_digit(line: Line, digit: u8, case: &mut [u8]) -> Line {
     let size = line.size;
-    let Some(byte) = case.get_mut(size) else {
+    let Some(value) = char::from(digit).to_digit(16) else {
         return line;
     };
-    let value = value_of(digit);
+    if case.len() <= size {
+        return line;
+    }
+    let value = value as u8;
     match line.half {
         None => Line {
             size,
             half: Some(value),
         },
         Some(high) => {
-            *byte = high % 16 * 16 + value;
+            case[size] = high % 16 * 16 + value;
             Line {
                 size: size + 1,
                 half: None,
@@ -43,7 +51,8 @@ fn take_digit(line: Line, digit: u8, case: &mut [u8]) -> Line {
     }
 }
 
-// Takes what was read, and has each case answered that ends in it.
+// Takes what was read, and has each case answered that ends in it: what it promises holds whatever is read after. It prints the end of
+// the answer's line and nothing of a value.
 fn take_bytes<F: FnMut(&[u8]) -> io::Result<()>>(
     rt: &impl Print,
     before: Line,
@@ -51,8 +60,12 @@ fn take_bytes<F: FnMut(&[u8]) -> io::Result<()>>(
     case: &mut [u8],
     answer: &mut F,
 ) -> io::Result<Line>
-    requires { F.IsAlwaysCallable answer.old }
-    ensures { F.IsAlwaysCallable answer.new }
+    requires callable { F.IsAlwaysCallable answer.old }
+    requires within { before.size ≤ length case.old }
+    ensures still_callable { F.IsAlwaysCallable answer.new }
+    ensures room { length case.new ≡ length case.old }
+    ensures still_within { IfOk result (λ line. line.size ≤ length case.old) }
+    ensures answered { IfOk result (λ line. AnswersPart (CalledAt F.FnMut) (length case.old) answer.old (begun before case.old) bytes.now answer.new (begun line case.new)) }
 {
     let mut line = before;
     for byte in bytes {
@@ -67,16 +80,17 @@ fn take_bytes<F: FnMut(&[u8]) -> io::Result<()>>(
     Ok(line)
 }
 
-// Answers each case, in a line of its own. A read that fails is taken for the end: a program that loses its cases so prints
-// less than its file `stdout` holds, and `rt ci` compares the two.
-pub fn run<F: FnMut(&[u8]) -> io::Result<()>>(
+// Answers each case of what was read, one after the other, each in a line of its own. A read that fails is taken for the end: a
+// program that loses its cases so prints less than its file `stdout` holds, and `rt ci` compares the two.
+pub fn run<I: Read, F: FnMut(&[u8]) -> io::Result<()>>(
     rt: &impl Print,
-    input: &mut impl Read,
+    input: &mut I,
     buffer: &mut [u8],
     case: &mut [u8],
     mut answer: F,
 ) -> io::Result<()>
     requires { F.IsAlwaysCallable answer }
+    ensures { OnOk result (AnswersRead (CalledAt F.FnMut) (length case.old) answer (I.remaining input.old) (I.remaining input.new)) }
 {
     let mut line = Line::default();
     // A proved loop has to end, and nothing says that an input does.
@@ -100,9 +114,11 @@ struct Long {
 
 // Puts the bytes of a long case around the zeros that its line leaves out: so a short line has a case of megabytes. What
 // there is no room for is left out.
+#[tactic(auto, using(crate::proofs::Zeros::placed))]
 fn put_long(given: &[u8], before: usize, zeros: usize, long: &mut [u8]) -> Long
     ensures zeros_le_end { (result.zeros ≤ result.end) × ((result.end ≤ result.size) × (result.size ≤ length long.old)) }
     ensures around { Zeros long.old → Around long.new result.zeros result.end result.size }
+    ensures bytes { Zeros long.old → take result.size long.new ≡ long_case given.now before zeros (length long.old) }
 {
     let room = long.len();
     let start = before.min(room);
@@ -138,7 +154,8 @@ pub fn with_long<T, F: FnOnce(&[u8]) -> T>(
     ask: F,
 ) -> T
     requires { F.IsAlwaysCallable ask }
-    ensures { Zeros long.old → Zeros long.new }
+    ensures answer { Zeros long.old → FnOnceReturnsAt F.FnOnce ask (long_case given.now before zeros (length long.old)) result }
+    ensures cleared { Zeros long.old → Zeros long.new }
 {
     let put = put_long(given, before, zeros, long);
     let answer = ask(&long[..put.size]);
@@ -146,7 +163,8 @@ pub fn with_long<T, F: FnOnce(&[u8]) -> T>(
     answer
 }
 
-// What stands before the bytes of a case of the Rust's answers: its kind, a packet type or a network, and three numbers.
+// What stands before the bytes of a case of the Rust's answers: its kind, a packet type or a network, and three numbers. The kind is
+// the case's byte and no enum, since each program has kinds of its own.
 #[derive(Clone, Copy, Debug, PartialEq, Eq)]
 pub struct Asked {
     pub kind: u8,
@@ -157,8 +175,7 @@ pub struct Asked {
 }
 
 pub fn question(case: &[u8]) -> Asked
-    ensures kind_value { (result.kind ≡ number_at 1 case.now 0) × (result.about ≡ number_at 1 case.now 1) }
-    ensures a_value { (result.a ≡ number_at 8 case.now 2) × ((result.b ≡ number_at 8 case.now 10) × (result.c ≡ number_at 8 case.now 18)) }
+    ensures { result ≡ asked_of case.now }
 {
     Asked {
         kind: hns_encoding::u8_at(case, 0),
@@ -178,7 +195,8 @@ pub fn question_bytes(case: &[u8]) -> &[u8]
 // Asks a long question: its last two numbers say which zeros its bytes leave out.
 pub fn with_question<T, F: FnOnce(Asked, &[u8]) -> T>(case: &[u8], long: &mut [u8], ask: F) -> T
     requires { F.IsAlwaysCallable ask }
-    ensures { Zeros long.old → Zeros long.new }
+    ensures answer { Zeros long.old → (bytes : _) × F.post ask (asked_of case.now) bytes result × (bytes.now ≡ long_question case.now (length long.old)) }
+    ensures cleared { Zeros long.old → Zeros long.new }
 {
     let q = question(case);
     let given = question_bytes(case);
@@ -191,14 +209,20 @@ pub fn with_question<T, F: FnOnce(Asked, &[u8]) -> T>(case: &[u8], long: &mut [u
     )
 }
 
-// What a store or an output holds before a call. No byte is zero, since what is not kept is written as zero, and no two near each
-// other are the same, so that a byte that moved shows.
+// What a store or an output holds at a place before a call. No byte is zero, since what is not kept is written as zero, and no two
+// near each other are the same, so that a byte that moved shows.
+pub fn filler(place: usize) -> u8
+    ensures { result ≡ place % 251 + 1 }
+{
+    (place % 251 + 1) as u8
+}
+
 pub fn fill(out: &mut [u8])
     ensures size { length out.new ≡ length out.old }
     ensures bytes { EachIndex out.new (λ k. slice_index out.new k ≡ k % 251 + 1) }
 {
     for (place, byte) in out.iter_mut().enumerate() {
-        *byte = (place % 251 + 1) as u8;
+        *byte = filler(place);
     }
 }
 

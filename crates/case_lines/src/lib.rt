@@ -1,19 +1,24 @@
-//! What test programs print of an answer: numbers, bytes in hexadecimal, refusals, rows. A write that fails is answered as
-//! the error that it gave.
+//! What test programs print of an answer, as values with Display: numbers, bytes in hexadecimal, refusals, rows. A program prints
+//! them by std's `print!`, which promises nothing of what it writes but the error of a write that failed.
 #![tactic(auto)]
+
+ghost use Rattle.std.specs.Prelude.{◌≡◌, ◌==◌, take, drop, slice_index, Some, if◌then◌else◌};
+ghost use Rattle.hns_refusals.specs.Refusals.{spaced};
+ghost use Rattle.case_lines.specs.Texts.{hex_text, shown_text, behind_text, answered_text};
 
 use hns_refusals::Refusal;
 use std::fmt::{self, Display};
-use std::io;
 
 // The bytes that are shown where there may be megabytes.
 const SHOWN: usize = 800;
 
 // Bytes in hexadecimal.
 #[derive(Clone, Copy, Debug, PartialEq, Eq)]
-struct Digits<'a>(&'a [u8]);
+pub struct Hex<'a>(pub &'a [u8]);
 
-impl Display for Digits<'_> {
+impl Display for Hex<'_> {
+    ghost output = { λ hex. Some (hex_text hex.0.now) };
+
     fn fmt<W: fmt::Write>(&self, f: &mut fmt::Formatter<W>) -> fmt::Result {
         for byte in self.0 {
             write!(f, "{byte:02x}")?;
@@ -22,51 +27,86 @@ impl Display for Digits<'_> {
     }
 }
 
-// A number, or what else there is, behind a space.
-pub fn number(rt: &impl Print, n: impl Display + Drop) -> io::Result<()> {
-    print!(rt; " {n}")
-}
-
-pub fn numbers(rt: &impl Print, all: &[u64]) -> io::Result<()> {
-    for n in all {
-        number(rt, *n)?;
-    }
-    Ok(())
-}
-
-pub fn hex(rt: &impl Print, bytes: &[u8]) -> io::Result<()> {
-    number(rt, Digits(bytes))
-}
-
 // The first bytes, or that there are none.
-pub fn hex_or_none(rt: &impl Print, bytes: &[u8]) -> io::Result<()> {
-    if bytes.is_empty() {
-        print!(rt; " -")
-    } else {
-        hex(rt, hns_encoding::first(bytes, SHOWN))
+#[derive(Clone, Copy, Debug, PartialEq, Eq)]
+pub struct Shown<'a>(pub &'a [u8]);
+
+impl Display for Shown<'_> {
+    ghost output = { λ shown. Some (shown_text shown.0.now) };
+
+    #[tactic(auto, unfolding(crate::specs::Texts::shown_text))]
+    fn fmt<W: fmt::Write>(&self, f: &mut fmt::Formatter<W>) -> fmt::Result {
+        if self.0.is_empty() {
+            write!(f, "-")
+        } else {
+            write!(f, "{}", Hex(hns_encoding::first(self.0, SHOWN)))
+        }
     }
 }
 
-// So many bytes at a place.
-pub fn part(rt: &impl Print, bytes: &[u8], at: u64, n: u64) -> io::Result<()> {
+// Bytes behind a space, or nothing if there are none.
+#[derive(Clone, Copy, Debug, PartialEq, Eq)]
+pub struct Behind<'a>(pub &'a [u8]);
+
+impl Display for Behind<'_> {
+    ghost output = { λ behind. Some (behind_text behind.0.now) };
+
+    #[tactic(auto, unfolding(crate::specs::Texts::behind_text))]
+    fn fmt<W: fmt::Write>(&self, f: &mut fmt::Formatter<W>) -> fmt::Result {
+        if self.0.is_empty() {
+            Ok(())
+        } else {
+            write!(f, " {}", Hex(self.0))
+        }
+    }
+}
+
+// Numbers, each behind a space. Its fmt is that of Hex but for the text, which `write!` takes only as it stands.
+#[derive(Clone, Copy, Debug, PartialEq, Eq)]
+pub struct Numbers<'a>(pub &'a [u64]);
+
+impl Display for Numbers<'_> {
+    ghost output = { λ numbers. Some (spaced numbers.0.now) };
+
+    fn fmt<W: fmt::Write>(&self, f: &mut fmt::Formatter<W>) -> fmt::Result {
+        for n in self.0 {
+            write!(f, " {n}")?;
+        }
+        Ok(())
+    }
+}
+
+// What was answered, or the refusal.
+#[derive(Debug, PartialEq, Eq, Drop)]
+pub struct Answered<T>(pub Result<T, Refusal>);
+
+impl<T: Display> Display for Answered<T> {
+    ghost output = { λ answered. answered_text T.output answered.0 };
+
+    #[tactic(auto, unfolding(crate::specs::Texts::answered_text))]
+    fn fmt<W: fmt::Write>(&self, f: &mut fmt::Formatter<W>) -> fmt::Result {
+        match &self.0 {
+            Ok(value) => write!(f, "{value}"),
+            Err(refusal) => write!(f, "refused {refusal}"),
+        }
+    }
+}
+
+// So many bytes at a place. `part` and `counted` print nothing: what they answer is shown.
+pub fn part(bytes: &[u8], at: u64, n: u64) -> Shown<'_>
+    ensures { result.0.now ≡ take n (drop at bytes.now) }
+{
     let there = hns_encoding::from_place(bytes, at as usize);
-    hex_or_none(rt, hns_encoding::first(there, n as usize))
+    Shown(hns_encoding::first(there, n as usize))
 }
 
-pub fn refused(rt: &impl Print, refusal: Refusal) -> io::Result<()> {
-    print!(rt; "refused {refusal}")
-}
-
-// The refusal of a row: its number and values.
-pub fn refusal(rt: &impl Print, row: [u64; 16]) -> io::Result<()> {
-    numbers(rt, &row[..4])
-}
-
-// The one number of an answer, or the refusal.
-pub fn count(rt: &impl Print, row: [u64; 16]) -> io::Result<()> {
-    if row[0] == 0 {
-        numbers(rt, &row[..2])
+// The one number of a row that is an answer, behind its 0, or the refusal: its number and values. A row for C is numbers.
+pub fn counted(row: &[u64; 16]) -> Numbers<'_>
+    ensures { result.0.now ≡ take (if slice_index row.now 0 == 0 then 2 else 4) row.now }
+{
+    if let [0, ..] = row {
+        Numbers(&row[..2])
     } else {
-        refusal(rt, row)
+        Numbers(&row[..4])
     }
 }

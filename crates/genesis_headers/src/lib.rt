@@ -2,13 +2,30 @@
 #![tactic(auto)]
 
 ghost use Rattle.std.specs.Prelude.{◌≡◌};
+ghost use Rattle.genesis_headers.specs.Genesis.{genesis_time, genesis_bits};
 
 use hns_header_consensus::Header;
+use hns_p2p_frame::NetworkMagic;
 
-// Only time and bits differ from one network to another.
-fn genesis_header(time: u64, bits: u32) -> Header
-    ensures { (result.time ≡ time) × (result.bits ≡ bits) }
+pub const NETWORKS: [(&str, NetworkMagic); 4] = [
+    ("mainnet", NetworkMagic::Mainnet),
+    ("testnet", NetworkMagic::Testnet),
+    ("regtest", NetworkMagic::Regtest),
+    ("simnet", NetworkMagic::Simnet),
+];
+
+// Only time and bits differ from one network to another. It has the Rust's name, and no From could stand here: both types are other
+// crates'.
+#[tactic(auto, unfolding(crate::specs::Genesis::genesis_time, crate::specs::Genesis::genesis_bits))]
+pub fn genesis_header(network: NetworkMagic) -> Header
+    ensures { (result.time ≡ genesis_time network) × (result.bits ≡ genesis_bits network) }
 {
+    let (time, bits) = match network {
+        NetworkMagic::Mainnet => (1_580_745_078, 0x1c00_ffff),
+        NetworkMagic::Testnet => (1_580_745_079, 0x1d00_ffff),
+        NetworkMagic::Regtest => (1_580_745_080, 0x207f_ffff),
+        NetworkMagic::Simnet => (1_580_745_081, 0x207f_ffff),
+    };
     Header {
         time,
         bits,
@@ -16,28 +33,4 @@ fn genesis_header(time: u64, bits: u32) -> Header
         merkle_root: *b"\x8e\x4c\x97\x56\xfe\xf2\xad\x10\x37\x5f\x36\x0e\x05\x60\xfc\xc7\x58\x7e\xb5\x22\x3d\xdf\x8c\xd7\xc7\xe0\x6e\x60\xa1\x14\x0b\x15",
         ..Header::default()
     }
-}
-
-pub fn mainnet() -> Header
-    ensures { (result.time ≡ 1580745078) × (result.bits ≡ 469827583) }
-{
-    genesis_header(1_580_745_078, 0x1c00_ffff)
-}
-
-pub fn testnet() -> Header
-    ensures { (result.time ≡ 1580745079) × (result.bits ≡ 486604799) }
-{
-    genesis_header(1_580_745_079, 0x1d00_ffff)
-}
-
-pub fn regtest() -> Header
-    ensures { (result.time ≡ 1580745080) × (result.bits ≡ 545259519) }
-{
-    genesis_header(1_580_745_080, 0x207f_ffff)
-}
-
-pub fn simnet() -> Header
-    ensures { (result.time ≡ 1580745081) × (result.bits ≡ 545259519) }
-{
-    genesis_header(1_580_745_081, 0x207f_ffff)
 }

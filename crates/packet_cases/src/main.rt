@@ -7,15 +7,16 @@
 //! bytes: how many of these stand before the zeros, and how many zeros there are.
 #![tactic(auto)]
 
+use case_lines::{Answered, Behind, Numbers};
 use hns_encoding::{from_place, u8_at, u64_at};
 use hns_p2p_types::{
     CompactBlockRequest, GetProofPacket, Item, Items, LocatorPacket, NetAddress, Packet,
     RejectPacket, Span, VersionPacket,
 };
-use hns_refusals::Refusal;
 use std::fmt::{self, Display};
 use std::io;
 
+// There is no heap: what is lent to a call stands in a local array, of the length that the cases need, with places in it as numbers.
 const FRONT: usize = 10;
 
 // The two numbers of a long case.
@@ -27,7 +28,7 @@ const ROOM: usize = 20_000;
 // Bytes of a long case's rest: a hash, and a payload one byte over the limit. The stack of 8 MB has room for one of these.
 const LONG_ROOM: usize = 8_000_033;
 
-// An answer as it is printed.
+// An answer as it is printed. Its fields have the Rust's names, so that a span and items are two impls of two numbers each.
 #[derive(Clone, Copy, Debug, PartialEq, Eq)]
 struct Shown<T>(T);
 
@@ -80,7 +81,7 @@ impl Display for Shown<VersionPacket> {
             v.nonce,
             Shown(v.agent),
             v.height,
-            v.no_relay as u8
+            u8::from(v.no_relay)
         )
     }
 }
@@ -154,7 +155,7 @@ impl Display for Shown<Item> {
     }
 }
 
-// What is asked, by a case's first byte.
+// What is asked, by a case's first byte. An enum, since it is kept beside a type and a number.
 #[derive(Clone, Copy, Debug, PartialEq, Eq)]
 enum Question {
     Packet,
@@ -174,34 +175,19 @@ impl From<u8> for Question {
     }
 }
 
-fn show<T: Copy>(rt: &impl Print, answer: Result<T, Refusal>) -> io::Result<()>
-where
-    Shown<T>: Display + Drop,
-{
-    match answer {
-        Ok(value) => print!(rt; "{}", Shown(value)),
-        Err(refusal) => case_lines::refused(rt, refusal),
-    }
-}
-
-// The packet, and the output that was lent for a text.
+// The packet, and the output that was lent for a text. Type, payload and place are handed on one by one, as the port's calls take them.
 fn ask_packet(rt: &impl Print, packet_type: u8, payload: &[u8], out: &mut [u8]) -> io::Result<()> {
-    show(
-        rt,
-        hns_p2p_packet::read_packet(&[], packet_type, payload, out),
-    )?;
-    print!(rt; " text")?;
-    if !out.is_empty() {
-        case_lines::hex(rt, out)?;
-    }
-    Ok(())
+    let answer = hns_p2p_packet::read_packet(&[], packet_type, payload, out);
+    print!(rt; "{} text{}", Answered(answer.map(Shown)), Behind(out))
 }
 
 fn ask_item(rt: &impl Print, packet_type: u8, payload: &[u8], place: usize) -> io::Result<()> {
-    show(rt, hns_p2p_items::item(&[], packet_type, payload, place))
+    let answer = hns_p2p_items::item(&[], packet_type, payload, place);
+    print!(rt; "{}", Answered(answer.map(Shown)))
 }
 
-// Whether the item at a place has the hash: document 01 leaves open which place is answered.
+// Whether the item at a place has the hash: document 01 leaves open which place is answered. It looks up, and is no equality of two
+// values.
 fn stands(packet_type: u8, payload: &[u8], place: usize, hash: [u8; 32]) -> bool {
     match hns_p2p_items::item(&[], packet_type, payload, place) {
         Ok(Item::Inventory { hash: at, .. }) => from_place(payload, at).starts_with(&hash),
@@ -209,31 +195,25 @@ fn stands(packet_type: u8, payload: &[u8], place: usize, hash: [u8; 32]) -> bool
     }
 }
 
+// Printed here, since whether it is found is not what was answered.
 fn ask_find(rt: &impl Print, packet_type: u8, payload: &[u8], hash: [u8; 32]) -> io::Result<()> {
     match hns_p2p_find::find(&[], packet_type, payload, hash) {
-        Err(refusal) => case_lines::refused(rt, refusal),
+        Err(refusal) => print!(rt; "refused {refusal}"),
         Ok(None) => print!(rt; "nowhere"),
         Ok(Some(place)) if stands(packet_type, payload, place, hash) => print!(rt; "found"),
         Ok(Some(_)) => print!(rt; "found wrong"),
     }
 }
 
-// What is stored, and what stands after it.
+// What is stored, and what stands after it; printed here, as a word stands before the number.
 fn ask_indexes(rt: &impl Print, payload: &[u8], out: &mut [u64]) -> io::Result<()> {
-    let stored = match hns_p2p_indexes::indexes(&[], payload, out) {
-        Ok(count) => {
-            print!(rt; "indexes {count}")?;
-            count
-        }
-        Err(refusal) => {
-            case_lines::refused(rt, refusal)?;
-            0
-        }
-    };
-    let (stored, rest) = out.split_at(stored.min(out.len()));
-    case_lines::numbers(rt, stored)?;
-    print!(rt; " rest")?;
-    case_lines::numbers(rt, rest)
+    let answer = hns_p2p_indexes::indexes(&[], payload, out);
+    match answer {
+        Ok(count) => print!(rt; "indexes {count}")?,
+        Err(refusal) => print!(rt; "refused {refusal}")?,
+    }
+    let (stored, rest) = out.split_at(answer.unwrap_or(0).min(out.len()));
+    print!(rt; "{} rest{}", Numbers(stored), Numbers(rest))
 }
 
 // What a case asks about its rest.
@@ -283,6 +263,7 @@ fn answer(rt: &impl Print, case: &[u8], long: &mut [u8]) -> io::Result<()> {
         packet_type: u8_at(case, 1),
         n: u64_at(case, 2) as usize,
     };
+    // from 4 on a case is long: the byte is the case's own
     if byte < 4 {
         ask(rt, asked, rest)
     } else {
@@ -290,6 +271,7 @@ fn answer(rt: &impl Print, case: &[u8], long: &mut [u8]) -> io::Result<()> {
     }
 }
 
+// Each program has a main of its own: what it lends to its cases, and what it asks.
 fn main(rt: HostRuntime) -> io::Result<()> {
     let mut buffer = [0u8; 65_536];
     let mut case = [0u8; ROOM];

@@ -6,9 +6,12 @@
 //! So a short line has a payload of a thousand addresses, or of megabytes.
 #![tactic(auto)]
 
+use case_lines::{Behind, Hex};
 use hns_encoder::Encoder;
 use hns_encoding::{first, from_place, u8_at, u32_at};
 use std::io;
+
+// There is no heap: what is lent to a call stands in a local array, of the length that the cases need, with places in it as numbers.
 
 // The type and the four numbers.
 const FRONT: usize = 17;
@@ -25,43 +28,31 @@ const OUT_ROOM: usize = 88_100;
 // The longest encoding that is shown whole, as every version and reject is. Of a longer one the two ends are shown.
 const WHOLE: usize = 400;
 
-fn hex(rt: &impl Print, bytes: &[u8]) -> io::Result<()> {
-    if bytes.is_empty() {
-        return Ok(());
-    }
-    case_lines::hex(rt, bytes)
-}
-
 // What was written, some bytes behind it, and the sum of the whole output.
 fn show(rt: &impl Print, out: &[u8], written: usize) -> io::Result<()> {
     let bytes = first(out, written);
     if bytes.len() <= WHOLE {
-        hex(rt, bytes)?;
+        print!(rt; "{}", Behind(bytes))?;
     } else {
-        hex(rt, first(bytes, 64))?;
-        print!(rt; " to")?;
-        hex(rt, from_place(bytes, bytes.len() - 8))?;
+        let last = from_place(bytes, bytes.len() - 8);
+        print!(rt; " {} to {}", Hex(first(bytes, 64)), Hex(last))?;
     }
-    print!(rt; " behind")?;
-    hex(rt, first(from_place(out, written), 8))?;
-    print!(rt; " sum {}", case_input::sum(out))
+    let behind = first(from_place(out, written), 8);
+    print!(rt; " behind{} sum {}", Behind(behind), case_input::sum(out))
 }
 
+// Type, payload and output one by one, as the call takes them. Printed here, as what is shown of an answer is the output's.
 fn ask(rt: &impl Print, packet_type: u8, payload: &[u8], out: &mut [u8]) -> io::Result<()> {
     case_input::fill(out);
-    let written = match hns_p2p_rewrite::rewrite(&[], packet_type, payload, out) {
-        Ok(n) => {
-            print!(rt; "written {n}")?;
-            n
-        }
-        Err(refusal) => {
-            case_lines::refused(rt, refusal)?;
-            0
-        }
-    };
-    show(rt, out, written)
+    let answer = hns_p2p_rewrite::rewrite(&[], packet_type, payload, out);
+    match answer {
+        Ok(n) => print!(rt; "written {n}")?,
+        Err(refusal) => print!(rt; "refused {refusal}")?,
+    }
+    show(rt, out, answer.unwrap_or(0))
 }
 
+// A rule of the project: each put hands the next cursor back, beside the output.
 fn put_run(encoder: Encoder, out: &mut [u8], piece: &[u8], times: u32) -> Encoder {
     let mut e = encoder;
     for _ in 0..times {
@@ -94,6 +85,7 @@ fn answer(rt: &impl Print, case: &[u8], payload: &mut [u8], out: &mut [u8]) -> i
     }
 }
 
+// Each program has a main of its own: what it lends to its cases, and what it asks.
 fn main(rt: HostRuntime) -> io::Result<()> {
     let mut buffer = [0u8; 4_096];
     let mut case = [0u8; ROOM];

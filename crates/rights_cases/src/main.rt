@@ -10,11 +10,14 @@
 //! at which a refusal changes.
 #![tactic(auto)]
 
-use case_lines::{hex, numbers};
+use case_lines::{Hex, Numbers};
 use hns_encoding::{array_at, first, from_place, u8_at};
 use hns_p2p_types::{Items, Listing};
-use hns_refusals::Refusal;
+use hns_refusals::{ADDRESS_FIELD, HEADER_FIELD, INDEX_FIELD, INVENTORY_FIELD, LOCATOR_FIELD};
+use std::fmt::{self, Display};
 use std::io;
+
+// There is no heap: what is lent to a call stands in a local array, of the length that the cases need, with places in it as numbers.
 
 // Bytes of a line.
 const ROOM: usize = 2_000;
@@ -35,30 +38,22 @@ const OUT_ROOM: usize = 40;
 // A row of the C interface: 0 and what was answered, or the refusal.
 type Row = [u64; 16];
 
-fn refusal_row(refusal: Refusal) -> Row {
-    hns_packet_rows::of_packet(Err(refusal))
+// Its first four numbers: an answer's, 0 first, or a refusal's.
+#[derive(Clone, Copy, Debug, PartialEq, Eq)]
+struct Front(Row);
+
+impl Display for Front {
+    fn fmt<W: fmt::Write>(&self, f: &mut fmt::Formatter<W>) -> fmt::Result {
+        let [a, b, c, d, ..] = self.0;
+        write!(f, " {a} {b} {c} {d}")
+    }
 }
 
 fn items_row(items: Items, what: u64) -> Row {
     let Items { count, first } = items;
-    [
-        0,
-        count as u64,
-        first as u64,
-        what,
-        0,
-        0,
-        0,
-        0,
-        0,
-        0,
-        0,
-        0,
-        0,
-        0,
-        0,
-        0,
-    ]
+    let mut row = [0; 16];
+    row[..4].copy_from_slice(&[0, count as u64, first as u64, what]);
+    row
 }
 
 fn sheet(terms: &[u64]) -> Row {
@@ -74,24 +69,23 @@ struct Question<'a> {
     place: usize,
 }
 
+// A method for each call that takes terms: the call, and its row.
 impl Question<'_> {
     fn sent(self) -> Row {
-        match hns_p2p_rights::may_send(self.terms, self.packet_type) {
-            Ok(()) => [0; 16],
-            Err(refusal) => refusal_row(refusal),
-        }
+        let answer = hns_p2p_rights::may_send(self.terms, self.packet_type);
+        hns_packet_rows::of_stored(answer.map(|()| 0))
     }
 
-    // What the items are is shown by document 01's codes of fields.
+    // What the items are is shown by document 01's codes of fields, an arm for each. No From: it asks a call, and converts nothing.
     fn listed(self) -> Row {
         match hns_p2p_items::listing(self.terms, self.packet_type, self.payload) {
-            Ok(Listing::Addresses(items)) => items_row(items, 1),
-            Ok(Listing::Inventory(items)) => items_row(items, 2),
-            Ok(Listing::Hashes(items)) => items_row(items, 3),
-            Ok(Listing::Headers(items)) => items_row(items, 4),
-            Ok(Listing::Indexes(items)) => items_row(items, 6),
+            Ok(Listing::Addresses(items)) => items_row(items, ADDRESS_FIELD),
+            Ok(Listing::Inventory(items)) => items_row(items, INVENTORY_FIELD),
+            Ok(Listing::Hashes(items)) => items_row(items, LOCATOR_FIELD),
+            Ok(Listing::Headers(items)) => items_row(items, HEADER_FIELD),
+            Ok(Listing::Indexes(items)) => items_row(items, INDEX_FIELD),
             Ok(Listing::Nothing) => [0; 16],
-            Err(refusal) => refusal_row(refusal),
+            Err(refusal) => hns_packet_rows::of_stored(Err(refusal)),
         }
     }
 
@@ -137,34 +131,27 @@ impl Question<'_> {
     }
 }
 
-fn show(rt: &impl Print, name: &str, row: Row) -> io::Result<()> {
-    print!(rt; "{name}")?;
-    case_lines::refusal(rt, row)
-}
-
+// What is lent for an answer is made where it is printed, here and below, so that no Display could stand for it.
 fn ask_indexes(rt: &impl Print, q: Question) -> io::Result<()> {
     let mut out = [7u64; 3];
-    show(rt, " indexes", q.indexes(&mut out))?;
-    numbers(rt, &out)
+    let row = q.indexes(&mut out);
+    print!(rt; " indexes{}{}", Front(row), Numbers(&out))
 }
 
 fn ask_all(rt: &impl Print, q: Question) -> io::Result<()> {
     let mut stored = [7u64; NUMBERS_ROOM];
     let mut agent = [0xaau8; TEXT_ROOM];
     let mut out = [0xaau8; OUT_ROOM];
-    show(rt, "send", q.sent())?;
-    show(rt, " sheet", sheet(q.terms))?;
-    show(rt, " read", q.read())?;
-    show(rt, " listing", q.listed())?;
-    show(rt, " item", q.item())?;
-    show(rt, " find", q.found())?;
+    print!(rt; "send{} sheet{}", Front(q.sent()), Front(sheet(q.terms)))?;
+    print!(rt; " read{} listing{}", Front(q.read()), Front(q.listed()))?;
+    print!(rt; " item{} find{}", Front(q.item()), Front(q.found()))?;
     ask_indexes(rt, q)?;
-    show(rt, " numbers", q.stored(&mut stored))?;
-    numbers(rt, &stored)?;
-    show(rt, " packet", q.packet(&mut agent))?;
-    hex(rt, &agent)?;
-    show(rt, " rewrite", q.rewritten(&mut out))?;
-    hex(rt, &out)
+    let row = q.stored(&mut stored);
+    print!(rt; " numbers{}{}", Front(row), Numbers(&stored))?;
+    let row = q.packet(&mut agent);
+    print!(rt; " packet{} {}", Front(row), Hex(&agent))?;
+    let row = q.rewritten(&mut out);
+    print!(rt; " rewrite{} {}", Front(row), Hex(&out))
 }
 
 // Two digits for each answer: its refusal, or 0.
@@ -202,13 +189,14 @@ fn ask_types(rt: &impl Print, q: Question) -> io::Result<()> {
 }
 
 fn ask_table(rt: &impl Print, q: Question) -> io::Result<()> {
-    show(rt, "sheet", sheet(q.terms))?;
+    print!(rt; "sheet{}", Front(sheet(q.terms)))?;
     ask_indexes(rt, q)?;
     print!(rt; " types")?;
     ask_types(rt, q)
 }
 
-// The bytes are how many of them the terms take, the terms, and the payload. The kind is a byte of the case, of which 0 is one.
+// The bytes are how many of them the terms take, the terms, and the payload. The kind is the case's own byte, and stands here once: an
+// enum would name each question a second time.
 fn ask(rt: &impl Print, asked: case_input::Asked, bytes: &[u8]) -> io::Result<()> {
     let size = usize::from(u8_at(bytes, 0));
     let rest = from_place(bytes, 1);
@@ -229,6 +217,7 @@ fn ask(rt: &impl Print, asked: case_input::Asked, bytes: &[u8]) -> io::Result<()
     }
 }
 
+// Each program has a main of its own: what it lends to its cases, and what it asks.
 fn main(rt: HostRuntime) -> io::Result<()> {
     let mut buffer = [0u8; 4_096];
     let mut case = [0u8; ROOM];

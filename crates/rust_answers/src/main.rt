@@ -4,25 +4,28 @@
 //! A case is its kind, a network, three numbers of eight bytes, and its bytes.
 #![tactic(auto)]
 
-use case_lines::{hex, number, numbers};
+use case_lines::{Hex, Numbers};
 use hns_encoding::first;
 use std::io;
 
-// A row of the C interface begins with 0, or with the number of a refusal.
+// There is no heap: what is lent to a call stands in a local array, of the length that the cases need, with places in it as numbers.
+
+// A row of the C interface begins with 0, or with the number of a refusal. The language asks of a lent closure, here and below,
+// that it can be called.
 fn row<F: FnOnce(&mut [u64])>(rt: &impl Print, ask: F) -> io::Result<()>
     requires { F.IsAlwaysCallable ask }
 {
     let mut answer = [0u64; 6];
     ask(&mut answer);
-    numbers(rt, &answer)
+    print!(rt; "{}", Numbers(&answer))
 }
 
 fn put<F: FnOnce(&mut [u8]) -> usize>(rt: &impl Print, ask: F) -> io::Result<()>
     requires { F.IsAlwaysCallable ask }
 {
     let mut out = [0xaau8; 32];
-    number(rt, ask(&mut out))?;
-    hex(rt, &out)
+    let next = ask(&mut out);
+    print!(rt; " {next} {}", Hex(&out))
 }
 
 // A header, and where it was read the header again from its parts.
@@ -32,8 +35,7 @@ fn header<F: FnOnce(&mut [u8], &mut [u64])>(rt: &impl Print, ask: F) -> io::Resu
     let mut answer = [0u64; 6];
     let mut hashes = [0xaau8; 220];
     ask(&mut hashes, &mut answer);
-    numbers(rt, &answer)?;
-    hex(rt, &hashes)?;
+    print!(rt; "{} {}", Numbers(&answer), Hex(&hashes))?;
     match answer {
         [0, _, nonce, time, version, bits] => {
             let mut out = [0xaau8; 240];
@@ -41,7 +43,7 @@ fn header<F: FnOnce(&mut [u8], &mut [u64])>(rt: &impl Print, ask: F) -> io::Resu
             let version = (version % 4_294_967_296) as u32;
             let bits = (bits % 4_294_967_296) as u32;
             hns_ffi::hns_put_header(nonce, time, &hashes, version, bits, &mut out, 2);
-            hex(rt, &out)
+            print!(rt; " {}", Hex(&out))
         }
         _ => Ok(()),
     }
@@ -53,8 +55,7 @@ fn frame<F: FnOnce(&mut [u8], &mut [u64])>(rt: &impl Print, ask: F) -> io::Resul
     let mut answer = [0u64; 6];
     let mut out = [0xaau8; 48];
     ask(&mut out, &mut answer);
-    numbers(rt, &answer)?;
-    hex(rt, &out)
+    print!(rt; "{} {}", Numbers(&answer), Hex(&out))
 }
 
 // A push of what follows the first bytes, which are held: its row, the held bytes after it, and the output.
@@ -70,9 +71,8 @@ fn push(rt: &impl Print, network: u8, bytes: &[u8], held: usize) -> io::Result<(
         [0, _, _, held, ..] => held,
         [.., held, _] => held,
     };
-    numbers(rt, &answer)?;
-    hex(rt, first(&store, held as usize))?;
-    hex(rt, &output)
+    let store = first(&store, held as usize);
+    print!(rt; "{} {} {}", Numbers(&answer), Hex(store), Hex(&output))
 }
 
 // A list of compact sizes: its row, and the values, of which those that were not read are as they were.
@@ -80,11 +80,11 @@ fn sizes(rt: &impl Print, bytes: &[u8], at: usize) -> io::Result<()> {
     let mut answer = [0u64; 6];
     let mut values = [170u64; 6];
     hns_ffi::hns_read_compact_sizes(bytes, at, &mut values, &mut answer);
-    numbers(rt, &answer)?;
-    numbers(rt, &values)
+    print!(rt; "{}{}", Numbers(&answer), Numbers(&values))
 }
 
-// The kinds are the cases' own bytes, and each stands here once: an enum would name each call a second time.
+// The kinds are the cases' own bytes, and each stands here once, beside the one call that it asks for: an enum would name each call a
+// second time.
 fn answer(rt: &impl Print, case: &[u8]) -> io::Result<()> {
     let q = case_input::question(case);
     let bytes = case_input::question_bytes(case);
@@ -146,6 +146,7 @@ fn answer(rt: &impl Print, case: &[u8]) -> io::Result<()> {
     }
 }
 
+// Each program has a main of its own: what it lends to its cases, and what it asks.
 fn main(rt: HostRuntime) -> io::Result<()> {
     let mut buffer = [0u8; 65_536];
     let mut case = [0u8; 1_024];

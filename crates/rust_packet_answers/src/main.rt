@@ -10,11 +10,16 @@
 //! begins, and among the numbers of all items.
 #![tactic(auto)]
 
+ghost use Rattle.std.specs.Prelude.{◌<◌};
+
 use case_input::Asked;
-use case_lines::{hex_or_none, number, numbers, part};
+use case_lines::{Numbers, Shown, counted};
 use hns_encoding::{first, from_place};
 use hns_p2p_types::PacketType;
+use std::fmt::{self, Display};
 use std::io;
+
+// There is no heap: what is lent to a call stands in a local array, of the length that the cases need, with places in it as numbers.
 
 // Bytes of a line.
 const ROOM: usize = 4_096;
@@ -25,184 +30,214 @@ const LONG_ROOM: usize = 8_000_033;
 // Bytes of a lent output.
 const OUT_ROOM: usize = 1_024;
 
-// So many bytes at a place, as a text: each without its top bit.
-fn masked(rt: &impl Print, bytes: &[u8], at: u64, n: u64) -> io::Result<()> {
-    let mut shown = [0u8; 255];
-    let there = first(from_place(bytes, at as usize), n as usize);
-    for (to, byte) in shown.iter_mut().zip(there) {
-        *to = byte % 128;
-    }
-    hex_or_none(rt, first(&shown, there.len()))
-}
+// A text in hexadecimal, each byte without its top bit, which Hex keeps.
+#[derive(Clone, Copy, Debug, PartialEq, Eq)]
+struct Text<'a>(&'a [u8]);
 
-// What follows the first number of a row that is no refusal.
-fn answered<F: FnOnce() -> io::Result<()>>(
-    rt: &impl Print,
-    row: [u64; 16],
-    show: F,
-) -> io::Result<()>
-    requires { F.IsAlwaysCallable show }
-{
-    // A row of the C interface begins with 0 where it is no refusal.
-    if row[0] == 0 {
-        number(rt, 0)?;
-        show()
-    } else {
-        case_lines::refusal(rt, row)
-    }
-}
-
-fn version(rt: &impl Print, payload: &[u8], row: [u64; 16]) -> io::Result<()> {
-    numbers(rt, &row[1..9])?;
-    numbers(rt, &[row[10], row[13], row[14]])?;
-    part(rt, payload, row[9], 33)?;
-    masked(rt, payload, row[11], row[12])
-}
-
-fn listed(rt: &impl Print, payload: &[u8], row: [u64; 16]) -> io::Result<()> {
-    number(rt, row[1])?;
-    hex_or_none(rt, from_place(payload, row[2] as usize))
-}
-
-fn locator(rt: &impl Print, payload: &[u8], row: [u64; 16]) -> io::Result<()> {
-    listed(rt, first(payload, row[3] as usize), row)?;
-    part(rt, payload, row[3], 32)
-}
-
-fn reject(rt: &impl Print, payload: &[u8], row: [u64; 16]) -> io::Result<()> {
-    numbers(rt, &[row[1], row[2], row[5]])?;
-    masked(rt, payload, row[3], row[4])?;
-    part(rt, payload, row[6], row[5] % 2 * 32)
-}
-
-fn getblocktxn(rt: &impl Print, payload: &[u8], row: [u64; 16]) -> io::Result<()> {
-    numbers(rt, &row[1..3])?;
-    part(rt, payload, row[3], 32)
-}
-
-fn getproof(rt: &impl Print, payload: &[u8], row: [u64; 16]) -> io::Result<()> {
-    part(rt, payload, row[1], 32)?;
-    part(rt, payload, row[2], 32)
-}
-
-fn show_packet(rt: &impl Print, packet_type: u8, payload: &[u8], row: [u64; 16]) -> io::Result<()> {
-    match PacketType::from(packet_type) {
-        PacketType::Version => version(rt, payload, row),
-        PacketType::Verack
-        | PacketType::GetAddr
-        | PacketType::SendHeaders
-        | PacketType::Mempool
-        | PacketType::FilterClear => Ok(()),
-        PacketType::Ping | PacketType::Pong | PacketType::FeeFilter => number(rt, row[1]),
-        PacketType::Addr | PacketType::SendCmpct => numbers(rt, &row[1..3]),
-        PacketType::Inv | PacketType::GetData | PacketType::NotFound | PacketType::Headers => {
-            listed(rt, payload, row)
+impl Display for Text<'_> {
+    fn fmt<W: fmt::Write>(&self, f: &mut fmt::Formatter<W>) -> fmt::Result {
+        if self.0.is_empty() {
+            return write!(f, "-");
         }
-        PacketType::GetBlocks | PacketType::GetHeaders => locator(rt, payload, row),
-        PacketType::Reject => reject(rt, payload, row),
-        PacketType::GetBlockTxn => getblocktxn(rt, payload, row),
-        PacketType::GetProof => getproof(rt, payload, row),
-        _ => part(rt, payload, row[1], row[2]),
+        for byte in self.0 {
+            write!(f, "{:02x}", byte % 128)?;
+        }
+        Ok(())
     }
 }
 
-fn ask_packet(rt: &impl Print, packet_type: u8, payload: &[u8], out: &mut [u8]) -> io::Result<()> {
+// What a payload reads as: a row of the C interface that begins with 0.
+#[derive(Clone, Copy, Debug, PartialEq, Eq)]
+struct Answer<'a> {
+    packet_type: u8,
+    payload: &'a [u8],
+    row: [u64; 16],
+}
+
+impl Answer<'_> {
+    // The bytes at the place that a number of the row is: which numbers are places goes by the type.
+    fn part(&self, number: usize, n: u64) -> Shown<'_>
+        requires { number < 16 }
+    {
+        case_lines::part(self.payload, self.row[number], n)
+    }
+
+    // The text at a place, with its length beside it.
+    fn text(&self, number: usize) -> Text<'_>
+        requires { number < 15 }
+    {
+        let there = from_place(self.payload, self.row[number] as usize);
+        Text(first(there, self.row[number + 1] as usize))
+    }
+
+    // The bytes from where a list begins, up to an end.
+    fn list(&self, end: u64) -> Shown<'_> {
+        let payload = first(self.payload, end as usize);
+        Shown(from_place(payload, self.row[2] as usize))
+    }
+
+    // So many numbers, or none, and the bytes at the place after them.
+    fn placed<W: fmt::Write>(&self, f: &mut fmt::Formatter<W>, count: usize, n: u64) -> fmt::Result
+        requires { count < 15 }
+    {
+        let numbers = Numbers(&self.row[1..count + 1]);
+        write!(f, "{numbers} {}", self.part(count + 1, n))
+    }
+}
+
+// As a packet.
+#[derive(Clone, Copy, Debug, PartialEq, Eq)]
+struct Packet<'a>(Answer<'a>);
+
+impl Packet<'_> {
+    fn version<W: fmt::Write>(&self, f: &mut fmt::Formatter<W>) -> fmt::Result {
+        let answer = self.0;
+        let row = answer.row;
+        let more = [row[10], row[13], row[14]];
+        write!(f, "{}{}", Numbers(&row[1..9]), Numbers(&more))?;
+        write!(f, " {} {}", answer.part(9, 33), answer.text(11))
+    }
+
+    fn locator<W: fmt::Write>(&self, f: &mut fmt::Formatter<W>) -> fmt::Result {
+        let answer = self.0;
+        let [_, count, _, end, ..] = answer.row;
+        write!(f, " {count} {} {}", answer.list(end), answer.part(3, 32))
+    }
+
+    fn reject<W: fmt::Write>(&self, f: &mut fmt::Formatter<W>) -> fmt::Result {
+        let answer = self.0;
+        let [_, message, code, _, _, there, ..] = answer.row;
+        let hash = answer.part(6, there % 2 * 32);
+        write!(f, " {message} {code} {there} {} {hash}", answer.text(3))
+    }
+}
+
+impl Display for Packet<'_> {
+    fn fmt<W: fmt::Write>(&self, f: &mut fmt::Formatter<W>) -> fmt::Result {
+        let answer = self.0;
+        let [_, one, two, ..] = answer.row;
+        match PacketType::from(answer.packet_type) {
+            PacketType::Version => self.version(f),
+            PacketType::Verack
+            | PacketType::GetAddr
+            | PacketType::SendHeaders
+            | PacketType::Mempool
+            | PacketType::FilterClear => Ok(()),
+            PacketType::Ping | PacketType::Pong | PacketType::FeeFilter => write!(f, " {one}"),
+            PacketType::Addr | PacketType::SendCmpct => write!(f, " {one} {two}"),
+            PacketType::Inv | PacketType::GetData | PacketType::NotFound | PacketType::Headers => {
+                write!(f, " {one} {}", answer.list(u64::MAX))
+            }
+            PacketType::GetBlocks | PacketType::GetHeaders => self.locator(f),
+            PacketType::Reject => self.reject(f),
+            PacketType::GetBlockTxn => answer.placed(f, 2, 32),
+            PacketType::GetProof => write!(f, " {} {}", answer.part(1, 32), answer.part(2, 32)),
+            _ => answer.placed(f, 0, two),
+        }
+    }
+}
+
+// As an item.
+#[derive(Clone, Copy, Debug, PartialEq, Eq)]
+struct Item<'a>(Answer<'a>);
+
+impl Display for Item<'_> {
+    fn fmt<W: fmt::Write>(&self, f: &mut fmt::Formatter<W>) -> fmt::Result {
+        let answer = self.0;
+        let [_, one, ..] = answer.row;
+        match PacketType::from(answer.packet_type) {
+            PacketType::Addr => answer.placed(f, 5, 33),
+            PacketType::Inv | PacketType::GetData | PacketType::NotFound => {
+                answer.placed(f, 1, 32)
+            }
+            PacketType::GetBlocks | PacketType::GetHeaders => answer.placed(f, 0, 32),
+            PacketType::Headers => answer.placed(f, 0, 236),
+            _ => write!(f, " {one}"),
+        }
+    }
+}
+
+// 0 and what was answered, or the refusal's number and values. A row is the C interface's, and no type of ours to show.
+fn answered(rt: &impl Print, row: [u64; 16], shown: impl Display + Drop) -> io::Result<()> {
+    if let [0, ..] = row {
+        print!(rt; " 0{shown}")
+    } else {
+        print!(rt; "{}", counted(&row))
+    }
+}
+
+// The output that is lent for a text is shown after the packet. Nothing is asked if it is longer than there is room for. Type, payload
+// and place are handed on one by one, as the C interface takes them.
+fn ask_packet(rt: &impl Print, packet_type: u8, room: usize, payload: &[u8]) -> io::Result<()> {
+    let mut lent = [0xaau8; OUT_ROOM];
+    let Some(out) = lent.get_mut(..room) else {
+        return Ok(());
+    };
     let mut row = [0u64; 16];
     hns_ffi_packets::hns_read_packet(&[], packet_type, payload, out, &mut row);
-    answered(rt, row, || show_packet(rt, packet_type, payload, row))
-}
-
-fn address(rt: &impl Print, payload: &[u8], row: [u64; 16]) -> io::Result<()> {
-    numbers(rt, &row[1..6])?;
-    part(rt, payload, row[6], 33)
-}
-
-fn inventory(rt: &impl Print, payload: &[u8], row: [u64; 16]) -> io::Result<()> {
-    number(rt, row[1])?;
-    part(rt, payload, row[2], 32)
-}
-
-fn show_item(rt: &impl Print, packet_type: u8, payload: &[u8], row: [u64; 16]) -> io::Result<()> {
-    match PacketType::from(packet_type) {
-        PacketType::Addr => address(rt, payload, row),
-        PacketType::Inv | PacketType::GetData | PacketType::NotFound => inventory(rt, payload, row),
-        PacketType::GetBlocks | PacketType::GetHeaders => part(rt, payload, row[1], 32),
-        PacketType::Headers => part(rt, payload, row[1], 236),
-        _ => number(rt, row[1]),
-    }
+    let answer = Answer {
+        packet_type,
+        payload,
+        row,
+    };
+    answered(rt, row, Packet(answer))?;
+    print!(rt; " {}", Shown(out))
 }
 
 fn ask_item(rt: &impl Print, packet_type: u8, payload: &[u8], place: usize) -> io::Result<()> {
     let mut row = [0u64; 16];
     hns_ffi_packets::hns_item(&[], packet_type, payload, place, &mut row);
-    answered(rt, row, || show_item(rt, packet_type, payload, row))
+    let answer = Answer {
+        packet_type,
+        payload,
+        row,
+    };
+    answered(rt, row, Item(answer))
 }
 
-// All indexes, and the numbers that were lent for them.
-fn ask_indexes(rt: &impl Print, payload: &[u8]) -> io::Result<()> {
-    let mut row = [0u64; 16];
-    let mut out = [170u64; 5];
-    hns_ffi_packets::hns_indexes(&[], payload, &mut out, &mut row);
-    case_lines::count(rt, row)?;
-    numbers(rt, &out)
-}
-
-// All numbers of items, and those that were lent for them.
-fn ask_numbers(rt: &impl Print, packet_type: u8, payload: &[u8]) -> io::Result<()> {
-    let mut row = [0u64; 16];
-    let mut out = [170u64; 10];
-    hns_ffi_packets::hns_item_numbers(&[], packet_type, payload, &mut out, &mut row);
-    case_lines::count(rt, row)?;
-    numbers(rt, &out)
-}
-
+// All indexes, or all numbers of items: how many there are, or the refusal; and the numbers that were lent for them.
 fn ask_all(rt: &impl Print, packet_type: u8, payload: &[u8]) -> io::Result<()> {
-    match PacketType::from(packet_type) {
-        PacketType::GetBlockTxn => ask_indexes(rt, payload),
-        _ => ask_numbers(rt, packet_type, payload),
-    }
-}
-
-// What stands at the place that the finder answers: document 01 leaves open which place it is.
-fn show_found(rt: &impl Print, packet_type: u8, payload: &[u8], place: u64) -> io::Result<()> {
     let mut row = [0u64; 16];
-    hns_ffi_packets::hns_item(&[], packet_type, payload, place as usize, &mut row);
-    part(rt, payload, row[2], 32)
+    let mut lent = [170u64; 10];
+    let room = match PacketType::from(packet_type) {
+        PacketType::GetBlockTxn => {
+            hns_ffi_packets::hns_indexes(&[], payload, &mut lent[..5], &mut row);
+            5
+        }
+        _ => {
+            hns_ffi_packets::hns_item_numbers(&[], packet_type, payload, &mut lent, &mut row);
+            10
+        }
+    };
+    print!(rt; "{}{}", counted(&row), Numbers(&lent[..room]))
 }
 
+// What stands at the place that the finder answers is shown: document 01 leaves open which place it is.
 fn ask_find(rt: &impl Print, packet_type: u8, payload: &[u8], hash: &[u8]) -> io::Result<()> {
     let mut row = [0u64; 16];
     hns_ffi_packets::hns_find(&[], packet_type, payload, hash, &mut row);
-    case_lines::count(rt, row)?;
-    // A row of the C interface: 0, and 1 where the hash stands somewhere.
+    print!(rt; "{}", counted(&row))?;
     if let [0, 1, place, ..] = row {
-        show_found(rt, packet_type, payload, place)?;
+        let mut item = [0u64; 16];
+        hns_ffi_packets::hns_item(&[], packet_type, payload, place as usize, &mut item);
+        print!(rt; " {}", case_lines::part(payload, item[2], 32))?;
     }
     Ok(())
 }
 
-// The output that is lent for a text is shown after the packet. Nothing is asked if it is longer than there is room for.
-fn lend(rt: &impl Print, packet_type: u8, room: usize, payload: &[u8]) -> io::Result<()> {
-    let mut lent = [0xaau8; OUT_ROOM];
-    if let Some(out) = lent.get_mut(..room) {
-        ask_packet(rt, packet_type, payload, out)?;
-        hex_or_none(rt, out)?;
-    }
-    Ok(())
-}
-
-// The kinds are bytes of the cases: an enum would name each call once more, and be no plainer.
+// The kinds are the cases' own bytes, and each stands here once: an enum would name each question a second time.
 fn ask(rt: &impl Print, q: Asked, bytes: &[u8]) -> io::Result<()> {
     let n = q.a as usize;
     print!(rt; "{}", q.kind)?;
     match q.kind {
-        24 => lend(rt, q.about, n, bytes),
+        24 => ask_packet(rt, q.about, n, bytes),
         25 => ask_item(rt, q.about, bytes, n),
         26 => ask_all(rt, q.about, bytes),
         _ => ask_find(rt, q.about, from_place(bytes, 32), bytes),
     }
 }
 
+// Each program has a main of its own: what it lends to its cases, and what it asks.
 fn main(rt: HostRuntime) -> io::Result<()> {
     let mut buffer = [0u8; 65_536];
     let mut case = [0u8; ROOM];

@@ -9,9 +9,12 @@
 #![tactic(auto)]
 
 use case_input::Asked;
+use case_lines::{Shown, counted};
 use hns_encoding::{first, from_place, u8_at, u16_at, u32_at, u64_at};
 use hns_p2p_types::PacketType;
 use std::io;
+
+// There is no heap: what is lent to a call stands in a local array, of the length that the cases need, with places in it as numbers.
 
 // Bytes of a line.
 const ROOM: usize = 4_096;
@@ -25,6 +28,7 @@ const OUT_ROOM: usize = 1_024;
 // Indexes to write: more than may be written.
 const NUMBERS: usize = 16_700;
 
+// The fields, an output and a row, here and below, as the C interface takes them.
 fn write_version(fields: &[u8], out: &mut [u8], row: &mut [u64]) {
     let remote = from_place(fields, 20);
     hns_ffi_writers::hns_write_version(
@@ -67,6 +71,7 @@ fn write_getblocktxn(fields: &[u8], out: &mut [u8], row: &mut [u64]) {
     }
 }
 
+// Each type has its writer, and each arm is one call.
 fn write(packet_type: u8, fields: &[u8], out: &mut [u8], row: &mut [u64]) {
     let number = u64_at(fields, 0);
     let rest = from_place(fields, 32);
@@ -99,7 +104,7 @@ fn write(packet_type: u8, fields: &[u8], out: &mut [u8], row: &mut [u64]) {
     }
 }
 
-// The kinds are bytes of the cases, of which these are two.
+// The kinds are the cases' own bytes, and each stands here once: an enum would name each call a second time.
 fn call(q: Asked, bytes: &[u8], out: &mut [u8], row: &mut [u64]) {
     match q.kind {
         28 => hns_ffi_packets::hns_rewrite(&[], q.about, bytes, out, row),
@@ -114,12 +119,12 @@ fn ask(rt: &impl Print, q: Asked, bytes: &[u8]) -> io::Result<()> {
     if let Some(out) = lent.get_mut(..q.a as usize) {
         let mut row = [0u64; 16];
         call(q, bytes, out, &mut row);
-        case_lines::count(rt, row)?;
-        case_lines::hex_or_none(rt, out)?;
+        print!(rt; "{} {}", counted(&row), Shown(out))?;
     }
     Ok(())
 }
 
+// Each program has a main of its own: what it lends to its cases, and what it asks.
 fn main(rt: HostRuntime) -> io::Result<()> {
     let mut buffer = [0u8; 65_536];
     let mut case = [0u8; ROOM];

@@ -7,10 +7,12 @@
 //! (two), how many zeros are the input if none do (four), and these bytes. So a short line has a long frame.
 #![tactic(auto)]
 
-use case_lines::{hex_or_none, number};
+use case_lines::Shown;
 use hns_encoding::{first, from_place, u8_at, u16_at, u32_at, u64_at};
 use hns_p2p_frame::{Delivered, NetworkMagic};
 use std::io;
+
+// There is no heap: what is lent to a call stands in a local array, of the length that the cases need, with places in it as numbers.
 
 // What stands before the numbers of the tally, each of these, and what stands before a push's bytes.
 const FRONT: usize = 6;
@@ -28,7 +30,7 @@ const LONG_ROOM: usize = 210_000;
 // A tally, and some numbers behind it, which no push may change.
 const TALLY_ROOM: usize = 520;
 
-// A push as a case has it: a held count, or that which the push before answered.
+// A push as a case has it: a held count, or that which the push before answered, and how much of the tally and of the output is lent.
 #[derive(Clone, Copy, Debug, PartialEq, Eq)]
 struct Asked<'a> {
     network: NetworkMagic,
@@ -49,7 +51,7 @@ fn read_push<'a>(push: &'a [u8], zeros: &'a [u8]) -> Asked<'a> {
     };
     Asked {
         network: hns_rows::network_of(head % 4),
-        held: if head < 4 { None } else { Some(given) },
+        held: (4 <= head).then_some(given),
         numbers: usize::from(u16_at(push, 9)),
         out: u32_at(push, 11) as usize,
         input,
@@ -83,27 +85,19 @@ fn show_totals(rt: &impl Print, tally: &[u64]) -> io::Result<()> {
     print!(rt; " ")
 }
 
-// Answers the held count.
+// Answers the held count, with the words of this program, which shows an answer once: a type with Display would be made for it.
 fn show_answer(rt: &impl Print, answer: Delivered) -> io::Result<usize> {
-    match answer {
-        Delivered::Accepted {
-            frames,
-            bytes,
-            held,
-        } => {
-            print!(rt; "taken {frames} {bytes} {held}")?;
-            Ok(held)
-        }
-        Delivered::Refused {
-            refusal,
-            frames,
-            bytes,
-            held,
-        } => {
-            print!(rt; "refused {refusal} {frames} {bytes} {held}")?;
-            Ok(held)
-        }
+    let Delivered {
+        frames,
+        bytes,
+        held,
+        verdict,
+    } = answer;
+    match verdict {
+        Ok(()) => print!(rt; "taken {frames} {bytes} {held}")?,
+        Err(refusal) => print!(rt; "refused {refusal} {frames} {bytes} {held}")?,
     }
+    Ok(held)
 }
 
 // What is lent to the pushes of a case.
@@ -135,8 +129,8 @@ impl Lent<'_> {
             tally,
         );
         let held = show_answer(rt, answer)?;
-        print!(rt; " sums {}", case_input::sum(output))?;
-        number(rt, case_input::sum(self.store))?;
+        let sums = (case_input::sum(output), case_input::sum(self.store));
+        print!(rt; " sums {} {}", sums.0, sums.1)?;
         show_totals(rt, self.tally)?;
         Ok(held)
     }
@@ -176,11 +170,11 @@ fn answer(
         tally: &mut tally,
     };
     let held = lent.push_all(rt, pushes, zeros)?;
-    print!(rt; "held")?;
-    hex_or_none(rt, first(lent.store, held))?;
+    print!(rt; "held {}", Shown(first(lent.store, held)))?;
     show_numbers(rt, lent.tally)
 }
 
+// A main of its own: what it lends to its cases, and what it asks.
 fn main(rt: HostRuntime) -> io::Result<()> {
     let mut buffer = [0u8; 4_096];
     let mut case = [0u8; ROOM];

@@ -2,49 +2,58 @@
 //! headers, a line a case: what was asked and what was answered. The file stdout has the lines that are right.
 #![tactic(auto)]
 
-use case_lines::hex;
+use case_lines::{Answered, Hex};
+use genesis_headers::{NETWORKS, genesis_header};
 use hns_encoder::Encoder;
 use hns_header_consensus::Header;
 use hns_refusals::Refusal;
-use std::fmt::Display;
+use std::fmt::{self, Display};
 use std::io;
 use std::ops::Range;
 
-fn refused(rt: &impl Print, name: &str, refusal: Refusal) -> io::Result<()> {
-    println!(rt; "{name}: refused {refusal}")
-}
+// Local arrays are what is lent, here and below: there is no heap.
 
 // A value and the place after it.
+#[derive(Debug, PartialEq, Eq, Drop)]
+struct Next<T>((T, usize));
+
+impl<T: Display> Display for Next<T> {
+    fn fmt<W: fmt::Write>(&self, f: &mut fmt::Formatter<W>) -> fmt::Result {
+        let (value, next) = &self.0;
+        write!(f, "{value} next {next}")
+    }
+}
+
+// The four that print an answer differ in what shows it, which each names once for all of its calls.
 fn number<T: Display + Drop>(
     rt: &impl Print,
     name: &str,
     answer: Result<(T, usize), Refusal>,
 ) -> io::Result<()> {
-    match answer {
-        Ok((value, next)) => println!(rt; "{name}: {value} next {next}"),
-        Err(refusal) => refused(rt, name, refusal),
+    println!(rt; "{name}: {}", Answered(answer.map(Next)))
+}
+
+// Where a part stands.
+#[derive(Debug, PartialEq, Eq, Drop)]
+struct Part(Range<usize>);
+
+impl Display for Part {
+    fn fmt<W: fmt::Write>(&self, f: &mut fmt::Formatter<W>) -> fmt::Result {
+        write!(f, "from {} next {}", self.0.start, self.0.end)
     }
 }
 
 fn slice(rt: &impl Print, name: &str, answer: Result<Range<usize>, Refusal>) -> io::Result<()> {
-    match answer {
-        Ok(part) => println!(rt; "{name}: from {} next {}", part.start, part.end),
-        Err(refusal) => refused(rt, name, refusal),
-    }
+    println!(rt; "{name}: {}", Answered(answer.map(Part)))
 }
 
 fn finished(rt: &impl Print, name: &str, answer: Result<(), Refusal>) -> io::Result<()> {
-    match answer {
-        Ok(()) => println!(rt; "{name}: done"),
-        Err(refusal) => refused(rt, name, refusal),
-    }
+    println!(rt; "{name}: {}", Answered(answer.map(|()| "done")))
 }
 
 // The output after a put, and where the next one begins.
 fn put(rt: &impl Print, name: &str, out: &[u8], e: Encoder) -> io::Result<()> {
-    print!(rt; "{name}:")?;
-    hex(rt, out)?;
-    println!(rt; " next {}", e.position)
+    println!(rt; "{name}: {} next {}", Hex(out), e.position)
 }
 
 fn numbers(rt: &impl Print) -> io::Result<()> {
@@ -223,47 +232,31 @@ fn put_compacts(rt: &impl Print) -> io::Result<()> {
     put(rt, "put varbytes 010203", &out, e)
 }
 
-// A header and the place after it.
+// A header that was read, and the place after it.
+#[derive(Clone, Copy, Debug, PartialEq, Eq)]
+struct Read((Header, usize));
+
+impl Display for Read {
+    fn fmt<W: fmt::Write>(&self, f: &mut fmt::Formatter<W>) -> fmt::Result {
+        let (h, next) = self.0;
+        write!(f, "next {next} nonce {} time {}", h.nonce, h.time)?;
+        write!(f, " version {} bits {}", h.version, h.bits)?;
+        write!(f, " witness {}", Hex(&h.witness_root))?;
+        write!(f, " merkle {}", Hex(&h.merkle_root))
+    }
+}
+
 fn decoded(
     rt: &impl Print,
     name: &str,
     answer: Result<(Header, usize), Refusal>,
 ) -> io::Result<()> {
-    match answer {
-        Ok((header, next)) => {
-            print!(rt; "{name}: next {next}")?;
-            fields(rt, header)
-        }
-        Err(refusal) => refused(rt, name, refusal),
-    }
-}
-
-fn fields(rt: &impl Print, h: Header) -> io::Result<()> {
-    print!(rt;
-        " nonce {} time {} version {} bits {}",
-        h.nonce, h.time, h.version, h.bits
-    )?;
-    print!(rt; " witness")?;
-    hex(rt, &h.witness_root)?;
-    print!(rt; " merkle")?;
-    hex(rt, &h.merkle_root)?;
-    println!(rt)
-}
-
-fn encoded(rt: &impl Print, name: &str, header: Header) -> io::Result<()> {
-    print!(rt; "{name}:")?;
-    hex(rt, &header.encode())?;
-    println!(rt)
+    println!(rt; "{name}: {}", Answered(answer.map(Read)))
 }
 
 // All of the bytes as a header.
 fn alone(rt: &impl Print, name: &str, bytes: &[u8]) -> io::Result<()> {
     decoded(rt, name, Header::decode(bytes).map(|h| (h, bytes.len())))
-}
-
-fn genesis(rt: &impl Print, name: &str, header: Header) -> io::Result<()> {
-    encoded(rt, name, header)?;
-    alone(rt, name, &header.encode())
 }
 
 // Each byte is its own place, so that a field that is read or written out of order shows.
@@ -277,7 +270,10 @@ fn headers_at_places(rt: &impl Print, bytes: &[u8]) -> io::Result<()> {
     let first = hns_header_consensus::read_header(bytes, 4);
     decoded(rt, "header at 4 of 00 to ef", first)?;
     if let Ok((header, _)) = first {
-        encoded(rt, "header at 4 of 00 to ef, encoded", header)?;
+        println!(rt;
+            "header at 4 of 00 to ef, encoded: {}",
+            Hex(&header.encode())
+        )?;
     }
     decoded(
         rt,
@@ -307,9 +303,10 @@ fn main(rt: HostRuntime) -> io::Result<()> {
     finishes(&rt)?;
     puts(&rt)?;
     put_compacts(&rt)?;
-    genesis(&rt, "mainnet", genesis_headers::mainnet())?;
-    genesis(&rt, "testnet", genesis_headers::testnet())?;
-    genesis(&rt, "regtest", genesis_headers::regtest())?;
-    genesis(&rt, "simnet", genesis_headers::simnet())?;
+    for (name, network) in NETWORKS {
+        let header = genesis_header(network);
+        println!(rt; "{name}: {}", Hex(&header.encode()))?;
+        alone(&rt, name, &header.encode())?;
+    }
     headers(&rt)
 }

@@ -6,16 +6,19 @@
 //! 5 by reading and writing takes 8,000,001 of them.
 #![tactic(auto)]
 
-use case_lines::hex;
+use case_lines::{Answered, Hex, Numbers};
+use genesis_headers::{NETWORKS, genesis_header};
 use hns_encoder::Encoder;
 use hns_encoding::first;
 use hns_header_consensus::Header;
-use hns_p2p_block_puts::{AddressFields, VersionFields};
-use hns_p2p_frame::{NetworkMagic, Prefix, Pushed};
+use hns_p2p_block_puts::VersionFields;
+use hns_p2p_frame::{Frames, NetworkMagic, Pushed};
 use hns_p2p_types::{Item, Packet};
 use hns_refusals::Refusal;
 use std::fmt::{self, Display};
 use std::io;
+
+// There is no heap: what is lent to a call stands in a local array, of the length that the cases need, with places in it as numbers.
 
 // One byte more than a payload may have.
 const LONG: usize = 8_000_001;
@@ -44,73 +47,38 @@ impl Display for Shown<Item> {
     }
 }
 
-impl Display for Shown<Option<Prefix>> {
-    fn fmt<W: fmt::Write>(&self, f: &mut fmt::Formatter<W>) -> fmt::Result {
-        match self.0 {
-            None => write!(f, "not yet"),
-            Some(_) => write!(f, "a frame"),
-        }
-    }
-}
-
-impl Display for Shown<Prefix> {
-    fn fmt<W: fmt::Write>(&self, f: &mut fmt::Formatter<W>) -> fmt::Result {
-        write!(f, "a frame")
-    }
-}
-
-impl Display for Shown<Header> {
-    fn fmt<W: fmt::Write>(&self, f: &mut fmt::Formatter<W>) -> fmt::Result {
-        write!(f, "a header")
-    }
-}
-
-fn line<T: Copy>(rt: &impl Print, name: &str, answer: Result<T, Refusal>) -> io::Result<()>
-where
-    Shown<T>: Display + Drop,
-{
-    match answer {
-        Ok(value) => println!(rt; "{name} {}", Shown(value)),
-        Err(refusal) => println!(rt; "{name} refused {refusal}"),
-    }
-}
-
+// Types by number, here and below, as the examples' words have them.
 fn read(rt: &impl Print, name: &str, packet_type: u8, payload: &[u8]) -> io::Result<()> {
     let mut agent = [0u8; 255];
-    line(
-        rt,
-        name,
-        hns_p2p_packet::read_packet(&[], packet_type, payload, &mut agent),
-    )
+    let answer = hns_p2p_packet::read_packet(&[], packet_type, payload, &mut agent);
+    println!(rt; "{name} {}", Answered(answer.map(Shown)))
 }
 
 fn prefix(rt: &impl Print, name: &str, input: &[u8]) -> io::Result<()> {
-    line(
-        rt,
-        name,
-        hns_p2p_frame::decode_frame_prefix(NetworkMagic::Mainnet, input),
-    )
+    let answer = hns_p2p_frame::decode_frame_prefix(NetworkMagic::Mainnet, input);
+    let shown = answer.map(|frame| if frame.is_some() {
+        "a frame"
+    } else {
+        "not yet"
+    });
+    println!(rt; "{name} {}", Answered(shown))
 }
 
-fn bytes(rt: &impl Print, name: &str, bytes: &[u8]) -> io::Result<()> {
-    print!(rt; "{name}")?;
-    hex(rt, bytes)?;
-    println!(rt)
-}
-
-fn wrote(
+// What a writer stored in an output that it is lent, or why it stored nothing. The language asks of a lent closure that it can be called.
+fn wrote<F: FnOnce(&mut [u8]) -> Result<usize, Refusal>>(
     rt: &impl Print,
     name: &str,
-    answer: Result<usize, Refusal>,
-    out: &[u8],
-) -> io::Result<()> {
-    match answer {
-        Ok(n) => bytes(rt, name, first(out, n)),
-        Err(refusal) => println!(rt; "{name} refused {refusal}"),
-    }
+    out: &mut [u8],
+    write: F,
+) -> io::Result<()>
+    requires { F.IsAlwaysCallable write }
+{
+    let answer = write(out);
+    println!(rt; "{name} {}", Answered(answer.map(|n| Hex(first(out, n)))))
 }
 
-// What a push to mainnet answers, and the output after it.
+// What a push to mainnet answers, and the output after it. It is lent one by one what the push takes, and prints it here, since no
+// other answer comes with a held count.
 fn push(
     rt: &impl Print,
     name: &str,
@@ -120,15 +88,18 @@ fn push(
     output: &mut [u8],
 ) -> io::Result<()> {
     print!(rt; "{name} ")?;
-    match hns_p2p_frame::push(NetworkMagic::Mainnet, store, held, input, output) {
-        Pushed::Refused { refusal, held } => print!(rt; "refused {refusal} held {held}")?,
-        Pushed::Accepted {
-            frames,
-            bytes,
-            held,
-        } => print!(rt; "frames {frames} bytes {bytes} held {held}")?,
+    let Pushed { delivered, held } = hns_p2p_frame::push(
+        NetworkMagic::Mainnet,
+        store,
+        held,
+        input,
+        output,
+    );
+    match delivered {
+        Ok(Frames { frames, bytes }) => print!(rt; "frames {frames} bytes {bytes} held {held}")?,
+        Err(refusal) => print!(rt; "refused {refusal} held {held}")?,
     }
-    bytes(rt, " output", output)
+    println!(rt; " output {}", Hex(output))
 }
 
 fn refusals_1_to_3(rt: &impl Print) -> io::Result<()> {
@@ -137,7 +108,7 @@ fn refusals_1_to_3(rt: &impl Print) -> io::Result<()> {
     read(rt, "3, type 1 of 00:", 1, b"\x00")
 }
 
-// The magic is not looked at before 9 bytes are there.
+// The magic is not looked at before 9 bytes are there. An example is a call, here and below: each has its own words and bytes.
 fn refusals_4_and_5(rt: &impl Print) -> io::Result<()> {
     prefix(
         rt,
@@ -161,18 +132,22 @@ fn refusals_4_and_5(rt: &impl Print) -> io::Result<()> {
     )
 }
 
-fn long_written(rt: &impl Print, name: &str, bytes: &[u8]) -> io::Result<()> {
-    let mut none = [0u8; 0];
-    let answer = hns_p2p_writer::write_raw(bytes, &mut none);
-    wrote(rt, name, answer, &none)
-}
-
 fn long_payloads(rt: &impl Print, bytes: &[u8]) -> io::Result<()> {
     let most = first(bytes, 8_000_000);
     read(rt, "5, type 13 of 8,000,001 bytes:", 13, bytes)?;
     read(rt, "type 13 of 8,000,000 bytes:", 13, most)?;
-    long_written(rt, "5, 8,000,001 raw bytes written into none:", bytes)?;
-    long_written(rt, "16, 8,000,000 raw bytes written into none:", most)
+    wrote(
+        rt,
+        "5, 8,000,001 raw bytes written into none:",
+        &mut [],
+        |out| { hns_p2p_writer::write_raw(bytes, out) },
+    )?;
+    wrote(
+        rt,
+        "16, 8,000,000 raw bytes written into none:",
+        &mut [],
+        |out| { hns_p2p_writer::write_raw(most, out) },
+    )
 }
 
 fn long(rt: &impl Print) -> io::Result<()> {
@@ -185,46 +160,35 @@ fn refusals_7_to_9(rt: &impl Print) -> io::Result<()> {
     read(rt, "7, type 5 of fde903:", 5, b"\xfd\xe9\x03")?;
     let frame = b"\xd3\xf2\x6e\x5b";
     let answer = hns_p2p_frame::decode_exact(NetworkMagic::Mainnet, frame);
-    line(rt, "8, 4 bytes as one frame:", answer)?;
+    println!(rt;
+        "8, 4 bytes as one frame: {}",
+        Answered(answer.map(|_| "a frame"))
+    )?;
     let mut request = [0u8; 37];
     Encoder { position: 32 }.put_bytes(&mut request, b"\x02\xfd\xff\xff\x00");
     read(rt, "9, type 24, differences 65,535 and 0:", 24, &request)
 }
 
-fn version_of_zeros() -> VersionFields {
-    let remote = AddressFields {
-        time: 0,
-        services: 0,
-        ip: [0; 16],
-        port: 0,
-        key: [0; 33],
-    };
-    VersionFields {
-        version: 0,
-        services: 0,
-        time: 0,
-        remote,
-        nonce: 0,
-        height: 0,
-        no_relay: false,
-    }
-}
-
 fn refusals_10_and_11(rt: &impl Print) -> io::Result<()> {
-    let mut out = [0xaau8; 200];
-    let answer = hns_p2p_writer::write_version(version_of_zeros(), b"\x80", &mut out);
-    wrote(rt, "10, agent 80:", answer, &out)?;
-    let hash = [0u8; 32];
-    let answer = hns_p2p_writer::write_reject(14, 0, b"", false, hash, &mut out);
-    wrote(rt, "11, a reject of type 14 with no hash:", answer, &out)
+    wrote(rt, "10, agent 80:", &mut [0xaa; 200], |out| {
+        hns_p2p_writer::write_version(VersionFields::default(), b"\x80", out)
+    })?;
+    wrote(
+        rt,
+        "11, a reject of type 14 with no hash:",
+        &mut [0xaa; 200],
+        |out| hns_p2p_writer::write_reject(14, 0, b"", None, out),
+    )
 }
 
 // Behind a block hash of zeros.
 fn request(rt: &impl Print, name: &str, indexes: &[u64]) -> io::Result<()> {
-    let hash = [0u8; 32];
-    let mut out = [0xaau8; 50];
-    let answer = hns_p2p_writer::write_getblocktxn(hash, indexes, &mut out);
-    wrote(rt, name, answer, &out)
+    wrote(
+        rt,
+        name,
+        &mut [0xaa; 50],
+        |out| hns_p2p_writer::write_getblocktxn([0; 32], indexes, out),
+    )
 }
 
 fn refusals_12_to_14(rt: &impl Print) -> io::Result<()> {
@@ -236,10 +200,14 @@ fn refusals_12_to_14(rt: &impl Print) -> io::Result<()> {
 
 fn refusals_15_and_16(rt: &impl Print) -> io::Result<()> {
     let short = [0u8; 235];
-    line(rt, "15, a header of 235 bytes:", Header::decode(&short))?;
-    let mut seven = [0xaau8; 7];
-    let answer = hns_p2p_writer::write_nonce(0, &mut seven);
-    wrote(rt, "16, a ping into 7 bytes:", answer, &seven)
+    let answer = Header::decode(&short).map(|_| "a header");
+    println!(rt; "15, a header of 235 bytes: {}", Answered(answer))?;
+    wrote(
+        rt,
+        "16, a ping into 7 bytes:",
+        &mut [0xaa; 7],
+        |out| hns_p2p_writer::write_nonce(0, out),
+    )
 }
 
 fn refusals_17_and_18(rt: &impl Print) -> io::Result<()> {
@@ -260,16 +228,10 @@ fn refusals_17_and_18(rt: &impl Print) -> io::Result<()> {
 fn refusal_19(rt: &impl Print) -> io::Result<()> {
     let mut two = [0u8; 73];
     two[0] = 2;
-    line(
-        rt,
-        "19, type 6, item 2 of 2:",
-        hns_p2p_items::item(&[], 6, &two, 2),
-    )?;
-    line(
-        rt,
-        "type 6, item 1 of 2:",
-        hns_p2p_items::item(&[], 6, &two, 1),
-    )
+    let past = hns_p2p_items::item(&[], 6, &two, 2);
+    println!(rt; "19, type 6, item 2 of 2: {}", Answered(past.map(Shown)))?;
+    let last = hns_p2p_items::item(&[], 6, &two, 1);
+    println!(rt; "type 6, item 1 of 2: {}", Answered(last.map(Shown)))
 }
 
 // The log of document 01; and a good frame, which is not delivered when a later header is bad.
@@ -297,11 +259,8 @@ fn pushes(rt: &impl Print) -> io::Result<()> {
 // Three indexes.
 fn indexes(rt: &impl Print, name: &str, payload: &[u8]) -> io::Result<()> {
     let mut out = [0u64; 3];
-    print!(rt; "{name}")?;
-    if hns_p2p_indexes::indexes(&[], payload, &mut out).is_ok() {
-        case_lines::numbers(rt, &out)?;
-    }
-    println!(rt)
+    let answer = hns_p2p_indexes::indexes(&[], payload, &mut out);
+    println!(rt; "{name}{}", Answered(answer.map(|_| Numbers(&out))))
 }
 
 fn differences(rt: &impl Print, name: &str, bytes: &[u8]) -> io::Result<()> {
@@ -321,15 +280,16 @@ fn worked_indexes(rt: &impl Print) -> io::Result<()> {
     )
 }
 
-fn fee(rt: &impl Print, name: &str, rate: i64) -> io::Result<()> {
-    let mut out = [0xaau8; 8];
-    let answer = hns_p2p_writer::write_feefilter(rate, &mut out);
-    wrote(rt, name, answer, &out)
-}
-
 fn worked_fees(rt: &impl Print) -> io::Result<()> {
-    fee(rt, "fee -1 written:", -1)?;
-    fee(rt, "fee -2^63 written:", -9_223_372_036_854_775_808)?;
+    wrote(
+        rt,
+        "fee -1 written:",
+        &mut [0xaa; 8],
+        |out| hns_p2p_writer::write_feefilter(-1, out),
+    )?;
+    wrote(rt, "fee -2^63 written:", &mut [0xaa; 8], |out| {
+        hns_p2p_writer::write_feefilter(-9_223_372_036_854_775_808, out)
+    })?;
     read(
         rt,
         "fee ffffffffffffffff read:",
@@ -359,11 +319,10 @@ fn worked_relay(rt: &impl Print) -> io::Result<()> {
 
 // A header of the packet, by its place in the list: its bytes as they read, and are encoded again.
 fn header(rt: &impl Print, name: &str, payload: &[u8], place: usize) -> io::Result<()> {
-    print!(rt; "{name}")?;
+    print!(rt; "{name}'s genesis header read:")?;
     if let Ok(Item::Header(at)) = hns_p2p_items::item(&[], 11, payload, place) {
         if let Ok((header, _)) = hns_header_consensus::read_header(payload, at) {
-            print!(rt; " at {at}")?;
-            hex(rt, &header.encode())?;
+            print!(rt; " at {at} {}", Hex(&header.encode()))?;
         }
     }
     println!(rt)
@@ -372,19 +331,20 @@ fn header(rt: &impl Print, name: &str, payload: &[u8], place: usize) -> io::Resu
 fn genesis_packet(rt: &impl Print, headers: &[u8]) -> io::Result<()> {
     let mut payload = [0xaau8; 945];
     let answer = hns_p2p_writer::write_headers(headers, &mut payload);
-    wrote(rt, "genesis headers written:", answer, &payload)?;
-    header(rt, "mainnet's genesis header read:", &payload, 0)?;
-    header(rt, "testnet's genesis header read:", &payload, 1)?;
-    header(rt, "regtest's genesis header read:", &payload, 2)?;
-    header(rt, "simnet's genesis header read:", &payload, 3)
+    let shown = answer.map(|n| Hex(first(&payload, n)));
+    println!(rt; "genesis headers written: {}", Answered(shown))?;
+    for (place, (name, _)) in NETWORKS.into_iter().enumerate() {
+        header(rt, name, &payload, place)?;
+    }
+    Ok(())
 }
 
 fn genesis(rt: &impl Print) -> io::Result<()> {
     let mut headers = [0u8; 944];
-    let e = genesis_headers::mainnet().encode_to(Encoder::new(), &mut headers);
-    let e = genesis_headers::testnet().encode_to(e, &mut headers);
-    let e = genesis_headers::regtest().encode_to(e, &mut headers);
-    genesis_headers::simnet().encode_to(e, &mut headers);
+    let mut e = Encoder::new();
+    for (_, network) in NETWORKS {
+        e = genesis_header(network).encode_to(e, &mut headers);
+    }
     genesis_packet(rt, &headers)
 }
 

@@ -6,14 +6,15 @@
 //! pattern before the call. After an answer comes what was written, and how many of the other bytes still have the pattern.
 #![tactic(auto)]
 
-ghost use Rattle.std.specs.Prelude.{◌<◌, ◌≤◌, length};
+ghost use Rattle.std.specs.Prelude.{◌<◌};
 
-use case_lines::hex;
+use case_lines::{Behind, Hex};
 use hns_encoding::{array_at, first, from_place, u8_at, u16_at, u32_at, u64_at};
 use hns_p2p_block_puts::{AddressFields, VersionFields};
 use hns_refusals::Refusal;
 use std::io;
 
+// There is no heap: what is lent to a call stands in a local array, of the length that the cases need, with places in it as numbers.
 const FRONT: usize = 17;
 
 // Bytes of a line.
@@ -28,61 +29,43 @@ const NUMBERS: usize = 16_700;
 // Bytes that are printed whole.
 const WHOLE: usize = 400;
 
-// A number in which each byte and its place count, for bytes that are too many to print.
+// A number in which each byte and its place count, for bytes that are too many to print. Its own: the file stdout has its values.
 fn sum(bytes: &[u8]) -> u32 {
     bytes.iter().fold(0u32, |sum, byte| {
         sum.wrapping_mul(31).wrapping_add(u32::from(*byte))
     })
 }
 
+// In words of its own, which the file stdout has.
 fn written(rt: &impl Print, bytes: &[u8]) -> io::Result<()> {
     let n = bytes.len();
-    print!(rt; "written {n}")?;
-    if WHOLE < n {
-        hex(rt, first(bytes, 64))?;
-        print!(rt; " ..")?;
-        hex(rt, from_place(bytes, n - 8))?;
-        print!(rt; " sum {}", sum(bytes))?;
-    } else if 0 < n {
-        hex(rt, bytes)?;
-    }
-    Ok(())
-}
-
-// The byte that stands at a place of the output before a call: not the same everywhere, so that a byte that moved shows.
-fn pattern(place: usize) -> u8 {
-    (place % 251) as u8
-}
-
-fn fill(out: &mut [u8]) {
-    for (place, byte) in out.iter_mut().enumerate() {
-        *byte = pattern(place);
+    if n <= WHOLE {
+        print!(rt; "written {n}{}", Behind(bytes))
+    } else {
+        let (front, last) = (Hex(first(bytes, 64)), Hex(from_place(bytes, n - 8)));
+        print!(rt; "written {n} {front} .. {last} sum {}", sum(bytes))
     }
 }
 
-// How many bytes from a place on have the pattern.
+// How many bytes from a place on are as they were; what stood there goes by the place in the whole output.
 fn kept(out: &[u8], from: usize) -> usize {
     out.iter()
         .enumerate()
         .skip(from)
-        .filter(|(place, byte)| **byte == pattern(*place))
+        .filter(|(place, byte)| **byte == case_input::filler(*place))
         .count()
 }
 
+// Printed here, as what is shown of an answer is the output's.
 fn show(rt: &impl Print, answer: Result<usize, Refusal>, out: &[u8]) -> io::Result<()> {
-    let from = match answer {
-        Ok(n) => {
-            written(rt, first(out, n))?;
-            n
-        }
-        Err(refusal) => {
-            case_lines::refused(rt, refusal)?;
-            0
-        }
-    };
-    print!(rt; " kept {}", kept(out, from))
+    match answer {
+        Ok(n) => written(rt, first(out, n))?,
+        Err(refusal) => print!(rt; "refused {refusal}")?,
+    }
+    print!(rt; " kept {}", kept(out, answer.unwrap_or(0)))
 }
 
+// As in hns_p2p_list_puts, which takes an item whose length is known, and has it for itself.
 fn remote(there: &[u8]) -> AddressFields {
     AddressFields {
         time: u64_at(there, 0),
@@ -109,39 +92,33 @@ fn version(fields: &[u8], out: &mut [u8]) -> Result<usize, Refusal> {
 fn reject(fields: &[u8], out: &mut [u8]) -> Result<usize, Refusal> {
     let message = u8_at(fields, 0);
     let code = u8_at(fields, 1);
-    let present = u8_at(fields, 2) == 1;
-    let hash = array_at(fields, 3);
-    hns_p2p_writer::write_reject(message, code, from_place(fields, 35), present, hash, out)
+    let hash = (u8_at(fields, 2) == 1).then_some(array_at(fields, 3));
+    hns_p2p_writer::write_reject(message, code, from_place(fields, 35), hash, out)
 }
 
-fn index_of(bytes: &[u8]) -> u64 {
-    if bytes.len() == 2 {
-        u64::from(u16_at(bytes, 0))
-    } else {
-        u64_at(bytes, 0)
-    }
-}
-
-// Takes the whole numbers of a width out of the list, as many as there is room for, and answers how many.
-fn load(list: &[u8], width: usize, numbers: &mut [u64]) -> usize
-    requires { 0 < width }
-    ensures { result ≤ length numbers.old }
-{
-    for (number, bytes) in numbers.iter_mut().zip(list.chunks_exact(width)) {
-        *number = index_of(bytes);
-    }
-    numbers.len().min(list.len() / width)
-}
-
-fn getblocktxn(fields: &[u8], width: usize, out: &mut [u8]) -> Result<usize, Refusal>
-    requires { 0 < width }
+// The whole numbers of a width, as many as there is room for. A closure reads a number from a slice: the language has no bound of Fn
+// over an array of so many bytes.
+fn getblocktxn<F: Fn(&[u8]) -> u64>(
+    fields: &[u8],
+    width: usize,
+    number_of: F,
+    out: &mut [u8],
+) -> Result<usize, Refusal>
+    requires width { 0 < width }
+    requires number { F.IsAlwaysCallable number_of }
 {
     let mut numbers = [0u64; NUMBERS];
-    let n = load(from_place(fields, 32), width, &mut numbers);
-    hns_p2p_writer::write_getblocktxn(array_at(fields, 0), &numbers[..n], out)
+    let list = from_place(fields, 32);
+    for (number, bytes) in numbers.iter_mut().zip(list.chunks_exact(width)) {
+        *number = number_of(bytes);
+    }
+    // What is less than a number at the end is left out.
+    let given = numbers.len().min(list.len() / width);
+    hns_p2p_writer::write_getblocktxn(array_at(fields, 0), &numbers[..given], out)
 }
 
-// What is asked is the case's own byte, and each stands here once: an enum would name each writer a second time.
+// What is asked is the case's own byte, and each stands here once, beside the one call that it asks for: an enum would name each writer
+// a second time.
 fn write(asked: u8, fields: &[u8], out: &mut [u8]) -> Result<usize, Refusal> {
     let number = u64_at(fields, 0);
     match asked {
@@ -155,8 +132,8 @@ fn write(asked: u8, fields: &[u8], out: &mut [u8]) -> Result<usize, Refusal> {
         7 => reject(fields, out),
         8 => hns_p2p_writer::write_feefilter(number.cast_signed(), out),
         9 => hns_p2p_writer::write_sendcmpct(u8_at(fields, 0), u64_at(fields, 1), out),
-        10 => getblocktxn(fields, 8, out),
-        11 => getblocktxn(fields, 2, out),
+        10 => getblocktxn(fields, 8, |bytes| u64_at(bytes, 0), out),
+        11 => getblocktxn(fields, 2, |bytes| u64::from(u16_at(bytes, 0)), out),
         12 => hns_p2p_writer::write_getproof(array_at(fields, 0), array_at(fields, 32), out),
         _ => hns_p2p_writer::write_raw(fields, out),
     }
@@ -167,7 +144,7 @@ fn call(rt: &impl Print, case: &[u8], room: &mut [u8]) -> io::Result<()> {
     let Some(out) = room.get_mut(..u64_at(case, 1) as usize) else {
         return Ok(());
     };
-    fill(out);
+    case_input::fill(out);
     let answer = write(u8_at(case, 0), from_place(case, FRONT), out);
     show(rt, answer, out)
 }
@@ -177,6 +154,7 @@ fn answer(rt: &impl Print, case: &[u8], long: &mut [u8], room: &mut [u8]) -> io:
     case_input::with_long(case, case.len(), zeros, long, |case| call(rt, case, room))
 }
 
+// Each program has a main of its own: what it lends to its cases, and what it asks.
 fn main(rt: HostRuntime) -> io::Result<()> {
     let mut buffer = [0u8; 65_536];
     let mut case = [0u8; LINE_ROOM];
