@@ -2,21 +2,11 @@
 use Rattle.std.proofs.Common.{◌≡◌, ℕ, ◌+◌, ◌<◌, List, [], ◌∷◌, ◌++◌, length, get_or, take, sym, ap, ◌∙◌, append_assoc, append-nil}
 use Rattle.std.proofs.Math.Seq.{take-suc}
 use native.Mathlib.Numerals.{unary_clauses}
-use Rattle.std.proofs.lemmas.Grind.{flat_map-append}
 use Rattle.std.specs.Fmt.{decimal}
 use Rattle.hns_refusals.specs.Refusals.{spaced}
-use Rattle.case_lines.specs.Texts.{byte_text, hex_text}
 
 take_one : (xs : List ℕ) (i : ℕ) → i < length xs → take (i + 1) xs ≡ take i xs ++ (get_or xs i 0 ∷ [])
 take_one xs i h = simp unary_clauses (take-suc xs i 0 h)
-
--- ---- bytes
-
-pub hex_more : (xs : List ℕ) (i : ℕ) → i < length xs → hex_text (take i xs) ++ byte_text (get_or xs i 0) ≡ hex_text (take (i + 1) xs)
-hex_more xs i h = sym (ap hex_text (take_one xs i h) ∙ flat_map-append byte_text (take i xs) (get_or xs i 0 ∷ [])
-    ∙ ap (λ t. hex_text (take i xs) ++ t) (append-nil (byte_text (get_or xs i 0))))
-
--- ---- numbers
 
 spaced_last : (xs : List ℕ) (n : ℕ) → spaced (xs ++ (n ∷ [])) ≡ spaced xs ++ (32 ∷ decimal n)
 spaced_last [] n = ap (λ t. 32 ∷ t) (append-nil (decimal n))
