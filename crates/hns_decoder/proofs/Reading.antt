@@ -4,7 +4,7 @@ use mathlib.Core.Path.{◌≡◌, refl, ap, ◌∙◌}
 use mathlib.Core.List.{List}
 use denote.Ref.{Bor}
 use Rattle.std.specs.Prelude.{Ok, Err}
-use Rattle.std.specs.declared.ops.Range.{Range}
+use Rattle.hns_encoding.specs.declared.Slice.{Slice}
 use Rattle.hns_refusals.specs.declared.Refusal.{Refusal}
 use Rattle.hns_refusals.specs.Refusals.{Answer}
 use Rattle.hns_encoding.specs.Bytes.{Outcome, got, stop, le_at, end_at, to_end}
@@ -26,12 +26,12 @@ module _ {A : Type 0} (d : Decoder) (o : Outcome A) {r : Answer (A × ℕ)} (e :
   stays g f = rw (refusal_read o e g) (f, refl)
 
 -- the same of bytes
-pub moves_past : (d : Decoder) (o : Outcome (List ℕ)) {r : Answer (Range ℕ)} {x : Range ℕ} → r ≡ range_of o → r ≡ Ok x → at_place d x.end ≡ at_place d (place_after o d.position)
+pub moves_past : (d : Decoder) (o : Outcome (List ℕ)) {r : Answer Slice} {x : Slice} → r ≡ range_of o → r ≡ Ok x → at_place d x.end ≡ at_place d (place_after o d.position)
 unfolding range_of place_after
 moves_past d (got bs next) e g = cc
 moves_past d (stop q) e g = cc
 
-pub stays_before : (d : Decoder) (o : Outcome (List ℕ)) {r : Answer (Range ℕ)} {q : Refusal} → r ≡ range_of o → r ≡ Err q → d ≡ at_place d (place_after o d.position)
+pub stays_before : (d : Decoder) (o : Outcome (List ℕ)) {r : Answer Slice} {q : Refusal} → r ≡ range_of o → r ≡ Err q → d ≡ at_place d (place_after o d.position)
 unfolding range_of place_after
 stays_before d (got bs next) e g = cc
 stays_before d (stop q) e g = refl

@@ -10,8 +10,8 @@ ghost use Rattle.hns_encoding.specs.Format.{num, ◌▸◌, read};
 ghost use Rattle.hns_decoder.specs.Places.{Reads, NumberRead, SliceRead};
 ghost use Rattle.hns_decoder.specs.Answers.{value_of};
 
+use hns_encoding::Slice;
 use hns_refusals::Refusal;
-use std::ops::Range;
 
 #[derive(Clone, Copy, Debug, PartialEq, Eq)]
 pub struct Decoder<'a> {
@@ -49,7 +49,7 @@ impl<'a> Decoder<'a> {
 
     // The same of bytes, which are answered by where they stand.
     #[tactic(auto, using(crate::proofs::Reading::moves_past, crate::proofs::Reading::stays_before))]
-    fn moved_past(&mut self, read: Result<Range<usize>, Refusal>) -> Result<Range<usize>, Refusal>
+    fn moved_past(&mut self, read: Result<Slice, Refusal>) -> Result<Slice, Refusal>
         ensures { (o : Outcome (List ℕ)) → read ≡ range_of o → Reads range_of o self.old result self.new }
     {
         let bytes = read?;
@@ -93,13 +93,13 @@ impl<'a> Decoder<'a> {
         self.moved(hns_encoding::read_compact_usize(self.input, self.position, maximum))
     }
 
-    pub fn read_slice(&mut self, length: usize) -> Result<Range<usize>, Refusal>
+    pub fn read_slice(&mut self, length: usize) -> Result<Slice, Refusal>
         ensures { SliceRead (bytes_at length) self.old result self.new }
     {
         self.moved_past(hns_encoding::read_slice(self.input, self.position, length))
     }
 
-    pub fn read_varbytes(&mut self, maximum: usize) -> Result<Range<usize>, Refusal>
+    pub fn read_varbytes(&mut self, maximum: usize) -> Result<Slice, Refusal>
         ensures { SliceRead (varbytes_at maximum) self.old result self.new }
     {
         self.moved_past(hns_encoding::read_varbytes(self.input, self.position, maximum))

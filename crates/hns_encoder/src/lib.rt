@@ -1,7 +1,7 @@
 //! Puts by a cursor beside a lent output: the project's rule for outputs, which C lends as a slice and a place.
 #![tactic(auto)]
 
-ghost use Rattle.std.specs.Prelude.{◌≡◌, ◌∷◌, []};
+ghost use Rattle.std.specs.Prelude.{◌≡◌, ◌∷◌, [], ◌≤◌};
 ghost use Rattle.hns_encoding.specs.Bytes.{le_bytes};
 ghost use Rattle.hns_encoding.specs.Compact.{compact_bytes, varbytes};
 ghost use Rattle.hns_encoding.specs.Put.{Put};
@@ -23,9 +23,7 @@ impl Encoder {
     pub fn put_bytes(self, out: &mut [u8], value: &[u8]) -> Encoder
         ensures { Put out.old self.position value.now out.new result.position }
     {
-        let at = self.position.min(out.len());
-        let n = value.len().min(out.len() - at);
-        out[at..at + n].copy_from_slice(&value[..n]);
+        hns_encoding::put_at(out, self.position, value);
         Encoder {
             position: self.position.saturating_add(value.len()),
         }
@@ -71,28 +69,27 @@ impl Encoder {
     pub fn put_u16_le(self, out: &mut [u8], value: u16) -> Encoder
         ensures { Put out.old self.position (le_bytes 2 value) out.new result.position }
     {
-        self.put_array(out, value.to_le_bytes())
+        self.put_array::<2>(out, value.to_le_bytes())
     }
 
     pub fn put_u32_le(self, out: &mut [u8], value: u32) -> Encoder
         ensures { Put out.old self.position (le_bytes 4 value) out.new result.position }
     {
-        self.put_array(out, value.to_le_bytes())
+        self.put_array::<4>(out, value.to_le_bytes())
     }
 
     pub fn put_u64_le(self, out: &mut [u8], value: u64) -> Encoder
         ensures { Put out.old self.position (le_bytes 8 value) out.new result.position }
     {
-        self.put_array(out, value.to_le_bytes())
+        self.put_array::<8>(out, value.to_le_bytes())
     }
 
-    #[tactic(auto, using(hns_encoding::proofs::Forms::byte_alone))]
-    pub fn put_compact_size(self, out: &mut [u8], value: u64) -> Encoder
+    // Apart, so that a compact size of one byte is small enough to stand in its caller's loop.
+    #[inline(never)]
+    fn put_wide(self, out: &mut [u8], value: u64) -> Encoder
+        requires { 253 ≤ value }
         ensures { Put out.old self.position (compact_bytes value) out.new result.position }
     {
-        if value < 253 {
-            return self.put_u8(out, value as u8);
-        }
         if value < 65_536 {
             return self.put_u8(out, 253).put_u16_le(out, value as u16);
         }
@@ -100,6 +97,17 @@ impl Encoder {
             return self.put_u8(out, 254).put_u32_le(out, value as u32);
         }
         self.put_u8(out, 255).put_u64_le(out, value)
+    }
+
+    #[inline(always)]
+    #[tactic(auto, using(hns_encoding::proofs::Forms::byte_alone))]
+    pub fn put_compact_size(self, out: &mut [u8], value: u64) -> Encoder
+        ensures { Put out.old self.position (compact_bytes value) out.new result.position }
+    {
+        if value < 253 {
+            return self.put_u8(out, value as u8);
+        }
+        self.put_wide(out, value)
     }
 
     // A compact size and as many bytes.

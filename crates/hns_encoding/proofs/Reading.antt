@@ -14,7 +14,7 @@ use lib.ListN.{length-drop, length-replicate}
 use borrow.Author.Tests.{le-leb, lt-leb, lt-ltb, le-ltb, eq-eqb, ne_eqb}
 use Rattle.std.specs.Prelude.{Result, Ok, Err}
 use Rattle.std.specs.Int.{Width, byte_len, byte_worth, sum_through, from_le_bytes}
-use Rattle.std.specs.declared.ops.Range.{Range}
+use Rattle.hns_encoding.specs.declared.Slice.{Slice}
 use Rattle.hns_refusals.specs.declared.Refusal.{Refusal}
 use Rattle.hns_refusals.specs.Refusals.{unexpected_end, not_shortest, trailing_bytes, over_limit}
 use Rattle.hns_encoding.specs.Bytes.{le, Outcome, got, stop, after, choose, part, bytes_at, le_at, number_at, raw_at, end_at}
@@ -153,12 +153,12 @@ module _ {A : Type 0} where
     goes_answer e g = ap result_of (sym (goes_on e g))
 
 -- and so of bytes by where they stand
-range_read : (o : Outcome (List ℕ)) {read : Result (Range ℕ) Refusal} {x : Range ℕ} → read ≡ range_of o → read ≡ Ok x → (bs : List ℕ) × (o ≡ got bs x.end)
+range_read : (o : Outcome (List ℕ)) {read : Result Slice Refusal} {x : Slice} → read ≡ range_of o → read ≡ Ok x → (bs : List ℕ) × (o ≡ got bs x.end)
 unfolding range_of
-range_read (got bs next) {x = x} e g = let same : x ≡ record { start = next - length bs; end = next } = cc in (bs, ap (λ (r : Range ℕ). got bs r.end) (sym same))
+range_read (got bs next) {x = x} e g = let same : x ≡ record { start = next - length bs; end = next } = cc in (bs, ap (λ (r : Slice). got bs r.end) (sym same))
 range_read (stop r) e g = cc
 
-refused_range : (o : Outcome (List ℕ)) {read : Result (Range ℕ) Refusal} {r : Refusal} → read ≡ range_of o → read ≡ Err r → o ≡ stop r
+refused_range : (o : Outcome (List ℕ)) {read : Result Slice Refusal} {r : Refusal} → read ≡ range_of o → read ≡ Err r → o ≡ stop r
 unfolding range_of
 refused_range (got bs next) e g = cc
 refused_range (stop q) e g = cc
@@ -183,12 +183,12 @@ width_most first = most (eqb first 253) (eqb first 254)
     most false false = omega arith
 
 -- the number of a wide form by its bytes: they are not all there, or a shorter form has it, or it is read
-module _ (n least : ℕ) (s : List ℕ) (p : ℕ) {read : Result (Range ℕ) Refusal} (e : read ≡ range_of (bytes_at n s p)) where
+module _ (n least : ℕ) (s : List ℕ) (p : ℕ) {read : Result Slice Refusal} (e : read ≡ range_of (bytes_at n s p)) where
   pub wide_short : {r : Refusal} → read ≡ Err r → Err r ≡ result_of (wide_at n least s p)
   unfolding wide_at le_at result_of
   wide_short g = rw (refused_range (bytes_at n s p) e g)
 
-  module _ {x : Range ℕ} (g : read ≡ Ok x) {v : ℕ} (is : v ≡ number_at n s p) where
+  module _ {x : Slice} (g : read ≡ Ok x) {v : ℕ} (is : v ≡ number_at n s p) where
     wide_read : (le_at n s p ≡ got v (p + n)) × (x.end ≡ p + n)
     unfolding le_at
     wide_read =

@@ -1,6 +1,6 @@
 -- The code's answers, of what the definitions give.
 use Rattle.std.specs.Prelude.{ℕ, ◌-◌, List, length, Ok, Err}
-use Rattle.std.specs.declared.ops.Range.{Range}
+use Rattle.hns_encoding.specs.declared.Slice.{Slice}
 use Rattle.hns_refusals.specs.Refusals.{Answer}
 use Rattle.hns_encoding.specs.Bytes.{Outcome, got, stop}
 use Rattle.hns_encoding.specs.Compact.{Run}
@@ -12,7 +12,7 @@ result_of (got v next) = Ok (v, next)
 result_of (stop r) = Err r
 
 -- bytes are answered by where they stand: they are the last before the next place
-unfoldable pub range_of : Outcome (List ℕ) → Answer (Range ℕ)
+unfoldable pub range_of : Outcome (List ℕ) → Answer Slice
 range_of (got bs next) = Ok (record { start = next - length bs; end = next })
 range_of (stop r) = Err r
 

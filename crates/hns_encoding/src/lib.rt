@@ -11,7 +11,6 @@ ghost use Rattle.hns_encoding.specs.Answers.{result_of, range_of, finished_of, s
 ghost use Rattle.hns_encoding.specs.Helpers.{by_form};
 
 use hns_refusals::Refusal;
-use std::ops::Range;
 
 // How many bytes stand from a place on: none past the end.
 pub fn remaining(input: &[u8], position: usize) -> usize
@@ -34,16 +33,22 @@ pub fn from_place(bytes: &[u8], at: usize) -> &[u8]
     &bytes[at.min(bytes.len())..]
 }
 
-// The bytes to an output's front, as many as fit. A loop, which compiles to wide moves in place: `copy_from_slice` calls memmove,
-// which takes longer for millions of bytes (docs/SPEED.md).
+// The bytes to a place of an output on, as many as fit. A loop, which compiles to wide moves in place: `copy_from_slice` of a length that
+// is not known calls memmove, which no archive for C is to need from outside.
 #[tactic(auto, using(crate::proofs::Puts::pasted))]
+pub fn put_at(out: &mut [u8], at: usize, bytes: &[u8])
+    ensures { out.new ≡ splice out.old at bytes.now }
+{
+    let n = bytes.len().min(remaining(out, at));
+    for i in 0..n {
+        out[at + i] = bytes[i];
+    }
+}
+
 pub fn put_front(out: &mut [u8], bytes: &[u8])
     ensures { out.new ≡ splice out.old 0 bytes.now }
 {
-    let n = bytes.len().min(out.len());
-    for i in 0..n {
-        out[i] = bytes[i];
-    }
+    put_at(out, 0, bytes);
 }
 
 // The N bytes at a place, or zeros where they are not all there.
@@ -94,15 +99,25 @@ fn too_short(input: &[u8], position: usize, length: usize) -> Refusal
     }
 }
 
+// Where bytes that were read stand. The library's Range is no Copy, and what a read answers is.
+#[derive(Clone, Copy, Debug, PartialEq, Eq)]
+pub struct Slice {
+    pub start: usize,
+    pub end: usize,
+}
+
 // Where n bytes stand.
 #[tactic(auto, using(crate::proofs::Reading::range_fits, crate::proofs::Reading::range_short))]
-pub fn read_slice(input: &[u8], position: usize, length: usize) -> Result<Range<usize>, Refusal>
+pub fn read_slice(input: &[u8], position: usize, length: usize) -> Result<Slice, Refusal>
     ensures { result ≡ range_of (bytes_at length input.now position) }
 {
     if remaining(input, position) < length {
         return Err(too_short(input, position, length));
     }
-    Ok(position..position + length)
+    Ok(Slice {
+        start: position,
+        end: position + length,
+    })
 }
 
 // N bytes and the place after them.
@@ -260,7 +275,7 @@ pub fn read_bounded(
     position: usize,
     length: usize,
     maximum: usize,
-) -> Result<Range<usize>, Refusal>
+) -> Result<Slice, Refusal>
     ensures { result ≡ range_of (bounded_at length maximum input.now position) }
 {
     if maximum < length {
@@ -275,7 +290,7 @@ pub fn read_bounded(
 
 // A compact size of at most `maximum`, and as many bytes.
 #[tactic(auto, using(crate::proofs::Reading::varbytes_ends, crate::proofs::Reading::varbytes_read))]
-pub fn read_varbytes(input: &[u8], position: usize, maximum: usize) -> Result<Range<usize>, Refusal>
+pub fn read_varbytes(input: &[u8], position: usize, maximum: usize) -> Result<Slice, Refusal>
     ensures { result ≡ range_of (varbytes_at maximum input.now position) }
 {
     let (length, next) = read_compact_usize(input, position, maximum)?;

@@ -16,6 +16,10 @@ use Rattle.hns_header_consensus.specs.Answers.{header_of, decoded_of}
 use Rattle.hns_header_consensus.proofs.Headers.{alone, not_236, decoded, not_decoded, placed, not_placed}
 use Rattle.hns_header_hashes.specs.Hashes.{hashes_of, hashes_kept, header_from}
 
+-- the first run, put as two arrays
+pub first_run : (s : List ℕ) → length s ≡ 236 → {a b : List ℕ} → a ≡ raw_at 88 s 12 → b ≡ raw_at 96 s 100 → a ++ b ≡ raw_at 184 s 12
+first_run s long f g = rw (f ∙ raw_there 88 s 12 (omega arith), g ∙ raw_there 96 s 100 (omega arith), raw_there 184 s 12 (omega arith), part_add s 12 88 96)
+
 -- six of them before version and bits, and one after
 pub two_runs : (s : List ℕ) → length s ≡ 236 → {first last : List ℕ} → first ≡ raw_at 184 s 12 → last ≡ raw_at 32 s 204 → first ++ last ≡ hashes_of (header_of (value_at header _ s 0))
 unfolding hashes_of

@@ -15,12 +15,14 @@ use hns_header_consensus::{HEADER_SIZE, Header};
 // The bytes of seven hashes side by side.
 const HASHES_SIZE: usize = 216;
 
-// In the 236 bytes they stand in two runs, before version and bits and after, so two copies are enough.
+// In the 236 bytes they stand in two runs, before version and bits and after. The first is put as two arrays: one of 184 bytes is longer
+// than the compiler moves in place.
 fn put_hashes(block: &[u8; HEADER_SIZE], out: &mut [u8])
     ensures { out.new ≡ splice out.old 0 (hashes_of (header_of (value_at header _ block.now 0))) }
 {
     Encoder::new()
-        .put_array::<184>(out, hns_encoding::array_at(block, 12))
+        .put_array::<88>(out, hns_encoding::array_at(block, 12))
+        .put_array::<96>(out, hns_encoding::array_at(block, 100))
         .put_array::<32>(out, hns_encoding::array_at(block, 204));
 }
 

@@ -89,6 +89,7 @@ fn item_in(payload: &[u8], list: Listing, first: usize, place: usize) -> Result<
 }
 
 // The item at a place of a payload of a type: the payload's own refusal first, which is never 16, then 19.
+#[tactic(auto, using(crate::proofs::Items::item_refused, hns_encoding::proofs::Numbers::bytes_known))]
 pub fn item(terms: &[u64], packet_type: u8, payload: &[u8], place: usize) -> Result<Item, Refusal>
     ensures { result ≡ item_under (terms_of terms.now) packet_type payload.now place }
 {

@@ -9,7 +9,7 @@ use lib.Dec.{leb}
 use borrow.Author.Tests.{le-leb, lt-leb}
 use Rattle.hns_encoding.proofs.Blocks.{length_values}
 use Rattle.std.specs.Prelude.{Ok, Err}
-use Rattle.std.specs.declared.ops.Range.{Range}
+use Rattle.hns_encoding.specs.declared.Slice.{Slice}
 use Rattle.hns_refusals.specs.declared.Refusal.{Refusal}
 use Rattle.hns_refusals.specs.Limits.{max_locator}
 use Rattle.hns_refusals.specs.Refusals.{Answer, locator_field}
@@ -72,26 +72,26 @@ end_refused (stop q) e g = cc
 
 -- ---- bytes by where they stand
 
-pub range_read : (o : Outcome (List ℕ)) {read : Answer (Range ℕ)} {x : Range ℕ} → read ≡ range_of o → read ≡ Ok x → (bs : List ℕ) × (o ≡ got bs x.end)
+pub range_read : (o : Outcome (List ℕ)) {read : Answer Slice} {x : Slice} → read ≡ range_of o → read ≡ Ok x → (bs : List ℕ) × (o ≡ got bs x.end)
 unfolding range_of
-range_read (got bs next) {x = x} e g = let same : x ≡ record { start = next - length bs; end = next } = cc in (bs, ap (λ (r : Range ℕ). got bs r.end) (sym same))
+range_read (got bs next) {x = x} e g = let same : x ≡ record { start = next - length bs; end = next } = cc in (bs, ap (λ (r : Slice). got bs r.end) (sym same))
 range_read (stop r) e g = cc
 
-pub refused_range : (o : Outcome (List ℕ)) {read : Answer (Range ℕ)} {r : Refusal} → read ≡ range_of o → read ≡ Err r → o ≡ stop r
+pub refused_range : (o : Outcome (List ℕ)) {read : Answer Slice} {r : Refusal} → read ≡ range_of o → read ≡ Err r → o ≡ stop r
 unfolding range_of
 refused_range (got bs next) e g = cc
 refused_range (stop q) e g = cc
 
-range_is : (o : Outcome (List ℕ)) {read : Answer (Range ℕ)} {x : Range ℕ} {bs : List ℕ} → read ≡ range_of o → read ≡ Ok x → o ≡ got bs x.end → x.start ≡ x.end - length bs
+range_is : (o : Outcome (List ℕ)) {read : Answer Slice} {x : Slice} {bs : List ℕ} → read ≡ range_of o → read ≡ Ok x → o ≡ got bs x.end → x.start ≡ x.end - length bs
 unfolding range_of
 range_is (got bs next) {x = x} {bs = bs'} e g is =
     let same : x ≡ record { start = next - length bs; end = next } = cc in
     let bytes : bs ≡ bs' = cc in
-    ap (λ (r : Range ℕ). r.start) same ∙ rw (bytes, ap (λ (r : Range ℕ). r.end) same)
+    ap (λ (r : Slice). r.start) same ∙ rw (bytes, ap (λ (r : Slice). r.end) same)
 range_is (stop r) e g is = cc
 
 -- they stand at the place that they were read from
-pub range_start : (n : ℕ) (s : List ℕ) (p : ℕ) {read : Answer (Range ℕ)} {x : Range ℕ} → read ≡ range_of (bytes_at n s p) → read ≡ Ok x → (x.start ≡ p) × (x.end ≡ p + n)
+pub range_start : (n : ℕ) (s : List ℕ) (p : ℕ) {read : Answer Slice} {x : Slice} → read ≡ range_of (bytes_at n s p) → read ≡ Ok x → (x.start ≡ p) × (x.end ≡ p + n)
 range_start n s p e g =
     let b = range_read (bytes_at n s p) e g in
     let is = range_is (bytes_at n s p) e g b.1 in
@@ -180,14 +180,14 @@ module _ (s : List ℕ) {read : Answer (Items × ℕ)} (e : read ≡ result_of (
   pub locator_list : {r : Refusal} → read ≡ Err r → Err r ≡ locator_of s
   locator_list g = rw (by_parts s, refusal_read (list_at max_locator locator_field (32 ∷ []) s 0) e g)
 
-  module _ {i : Items} {next : ℕ} (g : read ≡ Ok (i, next)) {hash : Answer (Range ℕ)} (f : hash ≡ range_of (bytes_at 32 s next)) where
+  module _ {i : Items} {next : ℕ} (g : read ≡ Ok (i, next)) {hash : Answer Slice} (f : hash ≡ range_of (bytes_at 32 s next)) where
     listed_so : list_at max_locator locator_field (32 ∷ []) s 0 ≡ got i next
     listed_so = value_read (list_at max_locator locator_field (32 ∷ []) s 0) e g
 
     pub locator_hash : {r : Refusal} → hash ≡ Err r → Err r ≡ locator_of s
     locator_hash h = rw (by_parts s, listed_so, read_raw 32 s next, refused_range (bytes_at 32 s next) f h)
 
-    module _ {x : Range ℕ} (h : hash ≡ Ok x) {end : Answer (Unit {0})} (k : end ≡ finished_of (end_at s x.end)) where
+    module _ {x : Slice} (h : hash ≡ Ok x) {end : Answer (Unit {0})} (k : end ≡ finished_of (end_at s x.end)) where
       pub locator_left : {r : Refusal} → end ≡ Err r → Err r ≡ locator_of s
       locator_left j = rw (by_parts s, listed_so, read_raw 32 s next, (range_read (bytes_at 32 s next) f h).1, end_refused (end_at s x.end) k j)
 

@@ -5,7 +5,7 @@ use mathlib.Core.List.{List, [], ◌∷◌}
 use lib.ListN.{length}
 use lib.Dec.{leb}
 use Rattle.std.specs.Prelude.{Ok, Err}
-use Rattle.std.specs.declared.ops.Range.{Range}
+use Rattle.hns_encoding.specs.declared.Slice.{Slice}
 use Rattle.hns_refusals.specs.declared.Refusal.{Refusal}
 use Rattle.hns_refusals.specs.Limits.{max_indexes, max_index}
 use Rattle.hns_refusals.specs.Refusals.{Answer, index_field, index_count_field}
@@ -43,12 +43,12 @@ unfolding passed_of
 passed_refused (got is last) e g = cc
 passed_refused (stop q) e g = cc
 
-module _ (s : List ℕ) {hash : Answer (Range ℕ)} (e : hash ≡ range_of (bytes_at 32 s 0)) where
+module _ (s : List ℕ) {hash : Answer Slice} (e : hash ≡ range_of (bytes_at 32 s 0)) where
   pub txn_short : {r : Refusal} → hash ≡ Err r → Err r ≡ fields_of 24 s
   unfolding fields_of row rows to_end read
   txn_short g = rw (refused_range (bytes_at 32 s 0) e g)
 
-  module _ {x : Range ℕ} (g : hash ≡ Ok x) {count : Answer (ℕ × ℕ)} (f : count ≡ result_of (count_at max_indexes index_count_field s x.end)) where
+  module _ {x : Slice} (g : hash ≡ Ok x) {count : Answer (ℕ × ℕ)} (f : count ≡ result_of (count_at max_indexes index_count_field s x.end)) where
     pub txn_count : {r : Refusal} → count ≡ Err r → Err r ≡ fields_of 24 s
     unfolding fields_of row rows to_end read
     txn_count h = rw ((range_read (bytes_at 32 s 0) e g).1, refusal_read (count_at max_indexes index_count_field s x.end) f h)

@@ -1,6 +1,6 @@
 -- Answers as rows of six numbers for a caller in C or Rust: 0 and what was answered, or the number of a refusal and its values a, b, c. What a case does not name is 0.
 use Rattle.std.specs.Prelude.{ℕ, ◌≡◌, List, [], ◌∷◌, ◌++◌, get_or, eqb, Option, Some, None, Ok, Err}
-use Rattle.std.specs.declared.ops.Range.{Range}
+use Rattle.hns_encoding.specs.declared.Slice.{Slice}
 use Rattle.hns_refusals.specs.declared.Refusal.{Refusal}
 use Rattle.hns_refusals.specs.Refusals.{Answer, number, values}
 use Rattle.hns_encoding.specs.declared.Sizes.{Sizes}
@@ -44,7 +44,7 @@ abbrev pub sizes_row : Sizes → List ℕ
 sizes_row sizes = row sizes.count sizes.next 0 0 0
 
 -- where the bytes begin and the place after them
-abbrev pub slice_row : Answer (Range ℕ) → List ℕ
+abbrev pub slice_row : Answer Slice → List ℕ
 slice_row (Ok x) = row x.start x.end 0 0 0
 slice_row (Err r) = refused_row r 0
 

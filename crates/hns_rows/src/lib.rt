@@ -5,11 +5,10 @@
 ghost use Rattle.std.specs.Prelude.{◌≡◌, ◌≤◌, length};
 ghost use Rattle.hns_rows.specs.Rows.{answered, network_of, refused_row, NumberRow, sizes_row, slice_row, checked_row, count_row, header_row, prefix_row, exact_row, pushed_row, delivered_row};
 
-use hns_encoding::Sizes;
+use hns_encoding::{Sizes, Slice};
 use hns_header_consensus::Header;
 use hns_p2p_frame::{Delivered, Frames, NetworkMagic, Prefix, Pushed};
 use hns_refusals::Refusal;
-use std::ops::Range;
 
 // As many numbers of a row as the caller has room for. Apart, so that a row goes to memory twice only where it does not fit.
 #[cold]
@@ -57,7 +56,7 @@ pub fn of_sizes(sizes: Sizes) -> [u64; 6]
     [0, sizes.count as u64, sizes.next as u64, 0, 0, 0]
 }
 
-pub fn of_slice(slice: Result<Range<usize>, Refusal>) -> [u64; 6]
+pub fn of_slice(slice: Result<Slice, Refusal>) -> [u64; 6]
     ensures { result ≡ slice_row slice }
 {
     match slice {
