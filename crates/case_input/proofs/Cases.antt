@@ -1,16 +1,14 @@
 -- What a run's calls add up to, from one byte to the next. Assumes nothing.
-use Rattle.std.proofs.Common.{◌≡◌, ◌≢◌, ℕ, ◌+◌, ◌*◌, ◌%◌, ◌<◌, ◌≤◌, ◌⊎◌, List, [], ◌∷◌, ◌++◌, length, take, set, get_or, drop, Option, None, Some, Result, Ok, Err, sym, ap, subst, ◌∙◌, eq-eqb, ne_eqb, le-leb, append_assoc, inl, inr, rules}
+use Rattle.std.proofs.Common.{◌≡◌, ◌≢◌, ℕ, ◌+◌, ◌*◌, ◌%◌, ◌<◌, ◌≤◌, List, [], ◌∷◌, ◌++◌, length, take, set, get_or, drop, Option, None, Some, Result, Ok, Err, sym, ap, subst, ◌∙◌, eq-eqb, ne_eqb, le-leb, append_assoc, rules}
 use mathlib.Core.Path.{refl}
 use borrow.Author.Tests.{lt-leb}
-use Rattle.std.specs.Char.{digit_value}
 use Rattle.std.specs.Io.KnownBytes.{Consumes, Keeps, ReadConsumes}
 use Rattle.std.specs.Result.{result_unwrap_or}
 use native.Mathlib.Numerals.{unary_clauses}
 use Rattle.std.proofs.Math.Seq.{take-suc-set}
-use Rattle.std.proofs.lemmas.List.{places, drop_all, drop_more}
-use Rattle.hns_encoding.proofs.Numbers.{lt_or_ge}
+use Rattle.std.proofs.lemmas.List.{places, drop_all, drop_more, take-set}
 use Rattle.case_input.specs.declared.Line.{Line}
-use Rattle.case_input.specs.Cases.{Begun, begun, unbegun, with_value, with_digit, cases_in, Answers}
+use Rattle.case_input.specs.Cases.{Begun, begun, unbegun, value_of, with_value, with_digit, cases_in, Answers}
 
 -- ---- a digit
 
@@ -18,33 +16,25 @@ no_room_in : (room d : ℕ) (s : Begun) → room ≤ length s.bytes → s ≡ wi
 unfolding with_digit
 no_room_in room d s h = rw (le-leb _ _ h) refl
 
-put_in : (room d : ℕ) (s : Begun) → length s.bytes < room → digit_value d < 16 → with_digit room s d ≡ with_value s.bytes s.half (digit_value d)
+put_in : (room d : ℕ) (s : Begun) → length s.bytes < room → with_digit room s d ≡ with_value s.bytes s.half (value_of d)
 unfolding with_digit
-put_in room d s h l = rw (lt-leb _ _ h, lt-leb _ _ l) refl
+put_in room d s h = rw (lt-leb _ _ h) refl
 
 pub no_room : (line : Line) (case : List ℕ) (d : ℕ) → line.size ≤ length case → length case ≤ line.size → begun line case ≡ with_digit (length case) (begun line case) d
 no_room line case d h l = no_room_in (length case) d (begun line case) (search (rules, places))
 
-pub no_digit : (line : Line) (case : List ℕ) (d : ℕ) → 16 ≤ digit_value d → begun line case ≡ with_digit (length case) (begun line case) d
-unfolding with_digit
-no_digit line case d h = go (lt_or_ge (length (take line.size case)) (length case))
-  where
-    go : (length (take line.size case) < length case) ⊎ (length case ≤ length (take line.size case)) → begun line case ≡ with_digit (length case) (begun line case) d
-    go (inl l) = rw (lt-leb _ _ l, le-leb _ _ h) refl
-    go (inr l) = no_room_in (length case) d (begun line case) l
+-- the byte that the digit begins is no byte of the case yet
+pub first_digit : (line : Line) (case : List ℕ) (d v b : ℕ) → line.half ≡ None → line.size < length case → v ≡ value_of d
+    → begun (record { size = line.size; half = Some v }) (set case line.size b) ≡ with_digit (length case) (begun line case) d
+first_digit line case d v b none h e =
+    let bytes : take line.size (set case line.size b) ≡ take line.size case = take-set case line.size b in
+    sym (put_in (length case) d (begun line case) (search (rules, places)) ∙ (rw (none, bytes, e) refl))
 
-pub first_digit : (line : Line) (case : List ℕ) (d v : ℕ) → line.half ≡ None → line.size < length case → v ≡ digit_value d → v < 16
-    → begun (record { size = line.size; half = Some v }) case ≡ with_digit (length case) (begun line case) d
-first_digit line case d v none h e l =
-    let small : digit_value d < 16 = rw e at l in
-    sym (put_in (length case) d (begun line case) (search (rules, places)) small ∙ (rw (none, e) refl))
-
-pub second_digit : (line : Line) (case : List ℕ) (d v high : ℕ) → line.half ≡ Some high → line.size < length case → v ≡ digit_value d → v < 16
+pub second_digit : (line : Line) (case : List ℕ) (d v high : ℕ) → line.half ≡ Some high → line.size < length case → v ≡ value_of d
     → begun (record { size = line.size + 1; half = None }) (set case line.size (high % 16 * 16 + v)) ≡ with_digit (length case) (begun line case) d
-second_digit line case d v high some h e l =
-    let small : digit_value d < 16 = rw e at l in
+second_digit line case d v high some h e =
     let bytes : take (line.size + 1) (set case line.size (high % 16 * 16 + v)) ≡ take line.size case ++ ((high % 16 * 16 + v) ∷ []) = simp unary_clauses (take-suc-set case line.size (high % 16 * 16 + v) h) in
-    sym (put_in (length case) d (begun line case) (search (rules, places)) small ∙ (rw (some, bytes, e) refl))
+    sym (put_in (length case) d (begun line case) (search (rules, places)) ∙ (rw (some, bytes, e) refl))
 
 -- ---- a byte of an input
 

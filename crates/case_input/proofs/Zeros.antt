@@ -3,19 +3,34 @@ use Rattle.std.proofs.Common.{◌≡◌, ℕ, ◌+◌, ◌-◌, ◌<◌, ◌≤�
 use Rattle.std.specs.Prelude.{min, replicate}
 use borrow.Rule.Slice.PartMut.{put_mid}
 use Rattle.std.proofs.lemmas.List.{places, ext_get_or}
+use mathlib.Core.Logic.{⊎_elim}
+use lib.ListN.{get_or-eq_default}
 use Rattle.std.proofs.lemmas.Slice.{take-put_mid}
 use Rattle.hns_encoding.proofs.Numbers.{lt_or_ge}
 use Rattle.case_input.specs.Zeros.{Zeros, Around, long_case}
 
--- zeros up to a place and from an end to a size
-pub cleared : (o : List ℕ) (p e n : ℕ) → p ≤ e → e ≤ n → n ≤ length o → Around o p e n → Zeros (put_mid e (n - e) (replicate p 0 ++ drop p o) (replicate (n - e) 0))
-cleared o p e n a b c around k = go (lt_or_ge k p) (lt_or_ge k e) (lt_or_ge k n)
-  where
-    go : (k < p) ⊎ (p ≤ k) → (k < e) ⊎ (e ≤ k) → (k < n) ⊎ (n ≤ k) → get_or (put_mid e (n - e) (replicate p 0 ++ drop p o) (replicate (n - e) 0)) k 0 ≡ 0
-    go (inl l) f g = search (rules, places)
-    go (inr l) (inl f) g = let z : get_or o k 0 ≡ 0 = around k l (inl f) in search (rules, places)
-    go (inr l) (inr f) (inl g) = search (rules, places)
-    go (inr l) (inr f) (inr g) = let z : get_or o k 0 ≡ 0 = around k l (inr g) in search (rules, places)
+-- zeros up to a place and from an end to a size, as far as there are bytes
+module _ (o : List ℕ) (p e n : ℕ) {p' n' e' : ℕ} (is-p : p' ≡ min p (length o)) (is-n : n' ≡ min n (length o)) (is-e : e' ≡ min e n') (around : Around o p e n) where
+  zero_there : (k : ℕ) → p' ≤ k → (k < e') ⊎ (n' ≤ k) → get_or o k 0 ≡ 0
+  zero_there k l w =
+      ⊎_elim
+      (λ h. around k (omega arith) (⊎_elim (λ f. inl (omega arith)) (λ g. inr (omega arith)) w))
+      (λ h. get_or-eq_default o 0 h)
+      (lt_or_ge k (length o))
+
+  pub cleared : Zeros (put_mid e' (n' - e') (replicate p' 0 ++ drop p' o) (replicate (n' - e') 0))
+  cleared k = go (lt_or_ge k p') (lt_or_ge k e') (lt_or_ge k n')
+    where
+      inside : (p' ≤ length o) × ((e' ≤ n') × (n' ≤ length o))
+      inside = (omega arith, (omega arith, omega arith))
+
+      go : (k < p') ⊎ (p' ≤ k) → (k < e') ⊎ (e' ≤ k) → (k < n') ⊎ (n' ≤ k) → get_or (put_mid e' (n' - e') (replicate p' 0 ++ drop p' o) (replicate (n' - e') 0)) k 0 ≡ 0
+      go (inl l) (inl f) g = search (rules, places)
+      go (inl l) (inr f) (inl g) = search (rules, places)
+      go (inl l) (inr f) (inr g) = search (rules, places)
+      go (inr l) (inl f) g = let z : get_or o k 0 ≡ 0 = zero_there k l (inl f) in search (rules, places)
+      go (inr l) (inr f) (inl g) = search (rules, places)
+      go (inr l) (inr f) (inr g) = let z : get_or o k 0 ≡ 0 = zero_there k l (inr g) in search (rules, places)
 
 -- ---- what a long case holds
 

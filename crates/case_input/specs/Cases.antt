@@ -1,6 +1,5 @@
 -- The cases that an input has: a line is a case in hexadecimal.
-use Rattle.std.specs.Prelude.{ℕ, ◌+◌, ◌*◌, ◌%◌, leb, eqb, List, [], ◌∷◌, ◌++◌, length, take, Option, None, Some, Result, Ok, ⊤}
-use Rattle.std.specs.Char.{digit_value}
+use Rattle.std.specs.Prelude.{ℕ, ◌+◌, ◌*◌, ◌/◌, ◌%◌, leb, eqb, List, [], ◌∷◌, ◌++◌, length, take, Option, None, Some, Result, Ok, ⊤}
 use Rattle.std.specs.Io.KnownBytes.{Consumes}
 use Rattle.hns_encoding.specs.Bytes.{choose}
 use Rattle.case_input.specs.declared.Line.{Line}
@@ -22,9 +21,13 @@ abbrev pub with_value : List ℕ → Option ℕ → ℕ → Begun
 with_value bytes None v = record { bytes = bytes; half = Some v }
 with_value bytes (Some high) v = record { bytes = bytes ++ ((high % 16 * 16 + v) ∷ []); half = None }
 
--- what is no digit, and what there is no room for, is passed over
+-- any byte is a digit: for a figure its own value, for a letter from a to f or A to F nine more than its place among the letters
+abbrev pub value_of : ℕ → ℕ
+value_of d = (d % 16 + d / 58 * 9) % 16
+
+-- what there is no room for is passed over
 unfoldable pub with_digit : ℕ → Begun → ℕ → Begun
-with_digit room s d = choose (leb room (length s.bytes)) s (choose (leb 16 (digit_value d)) s (with_value s.bytes s.half (digit_value d)))
+with_digit room s d = choose (leb room (length s.bytes)) s (with_value s.bytes s.half (value_of d))
 
 -- the cases of the lines that end in an input, whose first line is begun
 unfoldable pub cases_in : ℕ → Begun → List ℕ → List (List ℕ)

@@ -1,7 +1,7 @@
 //! Cases of test programs: a line of standard input is a case in hexadecimal, and a program answers one after the other.
 #![tactic(auto)]
 
-ghost use Rattle.std.specs.Prelude.{◌≡◌, OnOk, IfOk, ◌+◌, ◌%◌, ◌<◌, ◌≤◌, length, take, drop, fold, slice_index, EachIndex};
+ghost use Rattle.std.specs.Prelude.{◌≡◌, OnOk, IfOk, ◌+◌, ◌-◌, ◌%◌, ◌<◌, ◌≤◌, length, take, drop, fold, slice_index, EachIndex};
 ghost use Rattle.std.specs.Fn.{FnOnceReturnsAt, CalledAt};
 ghost use Rattle.case_input.specs.Cases.{begun, with_digit, AnswersPart, AnswersRead};
 ghost use Rattle.case_input.specs.Zeros.{Zeros, Around, long_case};
@@ -20,8 +20,8 @@ struct Line {
     half: Option<u8>,
 }
 
-// Takes a digit: two make a byte. One that there is no room for is passed over, and so is what is no digit.
-#[tactic(auto, using(crate::proofs::Cases::no_room, crate::proofs::Cases::no_digit, crate::proofs::Cases::first_digit, crate::proofs::Cases::second_digit))]
+// Takes a digit: two make a byte. One that there is no room for is passed over. Any byte is a digit, by one sum for figures and letters.
+#[tactic(auto, using(crate::proofs::Cases::no_room, crate::proofs::Cases::first_digit, crate::proofs::Cases::second_digit))]
 fn take_digit(line: Line, digit: u8, case: &mut [u8]) -> Line
     requires { line.size ≤ length case.old }
     ensures room { length case.new ≡ length case.old }
@@ -29,18 +29,18 @@ fn take_digit(line: Line, digit: u8, case: &mut [u8]) -> Line
     ensures begun { begun result case.new ≡ with_digit (length case.old) (begun line case.old) digit }
 {
     let size = line.size;
-    let Some(value) = char::from(digit).to_digit(16) else {
-        return line;
-    };
     if case.len() <= size {
         return line;
     }
-    let value = value as u8;
+    let value = (digit % 16 + digit / 58 * 9) % 16;
     match line.half {
-        None => Line {
-            size,
-            half: Some(value),
-        },
+        None => {
+            case[size] = case[size] % 16 * 16 + value;
+            Line {
+                size,
+                half: Some(value),
+            }
+        }
         Some(high) => {
             case[size] = high % 16 * 16 + value;
             Line {
@@ -80,8 +80,9 @@ fn take_bytes<F: FnMut(&[u8]) -> io::Result<()>>(
     Ok(line)
 }
 
-// Answers each case of what was read, one after the other, each in a line of its own. A read that fails is taken for the end: a
-// program that loses its cases so prints less than its file `stdout` holds, and `rt ci` compares the two.
+// Answers each case of what was read, one after the other, each in a line of its own. A read that fails is taken for one that gives
+// nothing: a program that loses its cases so prints less than its file `stdout` holds, and `rt ci` compares the two. The input is over
+// where nothing comes into an empty buffer; a terminal, say, may end it and go on.
 pub fn run<I: Read, F: FnMut(&[u8]) -> io::Result<()>>(
     rt: &impl Print,
     input: &mut I,
@@ -93,29 +94,137 @@ pub fn run<I: Read, F: FnMut(&[u8]) -> io::Result<()>>(
     ensures { OnOk result (AnswersRead (CalledAt F.FnMut) (length case.old) answer (I.remaining input.old) (I.remaining input.new)) }
 {
     let mut line = Line::default();
+    let mut filled = 0;
     // A proved loop has to end, and nothing says that an input does.
     for _ in 0..u64::MAX {
-        let n = input.read(buffer).unwrap_or(0);
-        if n == 0 {
+        let rest = &mut buffer[filled..];
+        let room = rest.len();
+        let n = input.read(rest).unwrap_or(0);
+        if n == 0 && filled == 0 {
             break;
         }
-        line = take_bytes(rt, line, &buffer[..n], case, &mut answer)?;
+        line = take_bytes(rt, line, &rest[..n], case, &mut answer)?;
+        filled = if n == 0 || n == room { 0 } else { filled + n };
     }
     Ok(())
 }
 
+// How far an input is taken, for a program that works in the buffer of its cases, with what earlier lines left there: a closure is lent a
+// case's own bytes alone. By steps that are counted down, so that what a case is told of holds after a failed read too.
+#[derive(Clone, Copy, Debug, PartialEq, Eq)]
+pub struct Lines {
+    // How many steps may follow, none after the last case: a proved loop has to end, and nothing says that an input does.
+    pub left: u64,
+    // The bytes of the case.
+    pub size: usize,
+    half: Option<u8>,
+    // Whether the line has ended.
+    whole: bool,
+    // The bytes in the lent buffer, and how many of them are taken.
+    filled: usize,
+    at: usize,
+}
+
+// Reads until the buffer is full or a read gives nothing, which is 0: no method of std's does without a heap and says how much there was.
+fn read_full(input: &mut impl Read, buffer: &mut [u8]) -> usize
+    ensures { result ≤ length buffer.old }
+{
+    let mut filled = 0;
+    while filled < buffer.len() {
+        match input.read(&mut buffer[filled..]).unwrap_or(0) {
+            0 => break,
+            n => filled += n,
+        }
+    }
+    filled
+}
+
+fn read_on(lines: Lines, input: &mut impl Read, buffer: &mut [u8]) -> Lines
+    requires { 0 < lines.left }
+    ensures { (result.left ≤ lines.left - 1) × (result.size ≡ lines.size) }
+{
+    let filled = read_full(input, buffer);
+    let left = if filled == 0 { 0 } else { lines.left - 1 };
+    Lines {
+        left,
+        filled,
+        at: 0,
+        ..lines
+    }
+}
+
+// Takes the next byte of the buffer, which is filled again where there is none.
+fn step(lines: Lines, input: &mut impl Read, buffer: &mut [u8], case: &mut [u8]) -> Lines
+    requires { (0 < lines.left) × (lines.size ≤ length case.old) }
+    ensures { (result.left ≤ lines.left - 1) × (result.size ≤ length case.old) }
+{
+    let at = lines.at;
+    if lines.filled <= at {
+        return read_on(lines, input, buffer);
+    }
+    let byte = hns_encoding::u8_at(buffer, at);
+    let next = Lines {
+        left: lines.left - 1,
+        at: at + 1,
+        whole: byte == b'\n',
+        ..lines
+    };
+    if next.whole {
+        return next;
+    }
+    let line = Line {
+        size: lines.size,
+        half: lines.half,
+    };
+    let Line { size, half } = take_digit(line, byte, case);
+    Lines { size, half, ..next }
+}
+
+// The next case, if steps are left. The input and the buffer are those that were lent before, as they were left.
+pub fn next_case(lines: Lines, input: &mut impl Read, buffer: &mut [u8], case: &mut [u8]) -> Lines
+    ensures { (result.left ≤ lines.left - 1) × (result.size ≤ length case.old) }
+{
+    let mut now = Lines {
+        size: 0,
+        half: None,
+        whole: false,
+        ..lines
+    };
+    while 0 < now.left {
+        now = step(now, input, buffer, case);
+        if now.whole {
+            return now;
+        }
+    }
+    now
+}
+
+pub fn first_case(input: &mut impl Read, buffer: &mut [u8], case: &mut [u8]) -> Lines
+    ensures { result.size ≤ length case.old }
+{
+    let before = Lines {
+        left: u64::MAX,
+        size: 0,
+        half: None,
+        whole: false,
+        filled: 0,
+        at: 0,
+    };
+    next_case(before, input, buffer, case)
+}
+
 // Where the zeros of a long case stand, and where it ends.
 #[derive(Clone, Copy, Debug, PartialEq, Eq)]
-struct Long {
-    zeros: usize,
-    end: usize,
-    size: usize,
+pub struct Long {
+    pub zeros: usize,
+    pub end: usize,
+    pub size: usize,
 }
 
 // Puts the bytes of a long case around the zeros that its line leaves out: so a short line has a case of megabytes. What
 // there is no room for is left out.
 #[tactic(auto, using(crate::proofs::Zeros::placed))]
-fn put_long(given: &[u8], before: usize, zeros: usize, long: &mut [u8]) -> Long
+pub fn put_long(given: &[u8], before: usize, zeros: usize, long: &mut [u8]) -> Long
     ensures zeros_le_end { (result.zeros ≤ result.end) × ((result.end ≤ result.size) × (result.size ≤ length long.old)) }
     ensures around { Zeros long.old → Around long.new result.zeros result.end result.size }
     ensures bytes { Zeros long.old → take result.size long.new ≡ long_case given.now before zeros (length long.old) }
@@ -137,12 +246,14 @@ fn put_long(given: &[u8], before: usize, zeros: usize, long: &mut [u8]) -> Long
 }
 
 // Makes what was put zeros again, so that no case has to write megabytes.
-fn clear_long(put: Long, long: &mut [u8])
-    requires { (put.zeros ≤ put.end) × ((put.end ≤ put.size) × (put.size ≤ length long.old)) }
+pub fn clear_long(put: Long, long: &mut [u8])
     ensures { Around long.old put.zeros put.end put.size → Zeros long.new }
 {
-    long[..put.zeros].fill(0);
-    long[put.end..put.size].fill(0);
+    let zeros = put.zeros.min(long.len());
+    let size = put.size.min(long.len());
+    let end = put.end.min(size);
+    long[..zeros].fill(0);
+    long[end..size].fill(0);
 }
 
 // Asks what is to be asked of a long case, and makes its bytes zeros again.
@@ -192,6 +303,16 @@ pub fn question_bytes(case: &[u8]) -> &[u8]
     hns_encoding::from_place(case, 26)
 }
 
+// Puts the bytes of a long question: its last two numbers say which zeros they leave out.
+pub fn put_question(case: &[u8], long: &mut [u8]) -> Long
+    ensures zeros_le_end { (result.zeros ≤ result.end) × ((result.end ≤ result.size) × (result.size ≤ length long.old)) }
+    ensures around { Zeros long.old → Around long.new result.zeros result.end result.size }
+    ensures bytes { Zeros long.old → take result.size long.new ≡ long_question case.now (length long.old) }
+{
+    let q = question(case);
+    put_long(question_bytes(case), q.b as usize, q.c as usize, long)
+}
+
 // Asks a long question: its last two numbers say which zeros its bytes leave out.
 pub fn with_question<T, F: FnOnce(Asked, &[u8]) -> T>(case: &[u8], long: &mut [u8], ask: F) -> T
     requires { F.IsAlwaysCallable ask }
@@ -231,4 +352,12 @@ pub fn sum(bytes: &[u8]) -> u64
     ensures { result ≡ fold mixed 0 bytes.now }
 {
     bytes.iter().fold(0, |sum, byte| sum % 4_294_967_291 * 257 + u64::from(*byte))
+}
+
+// An array as a slice. `main` knows each byte of its array, and a proof there that counts them takes a step for each; here the type says
+// how many there are.
+pub fn whole<const N: usize>(array: &mut [u8; N]) -> &mut [u8]
+    ensures { result.now ≡ array.entry.now }
+{
+    array
 }

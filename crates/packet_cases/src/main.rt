@@ -155,7 +155,7 @@ impl Display for Shown<Item> {
     }
 }
 
-// What is asked, by a case's first byte. An enum, since it is kept beside a type and a number.
+// What is asked, by a case's first byte. An enum, since two bytes ask the same: n, and n + 4 of a long case.
 #[derive(Clone, Copy, Debug, PartialEq, Eq)]
 enum Question {
     Packet,
@@ -166,11 +166,11 @@ enum Question {
 
 impl From<u8> for Question {
     fn from(byte: u8) -> Question {
-        match byte % 4 {
+        match if byte < 4 { byte } else { byte - 4 } {
             0 => Question::Packet,
             1 => Question::Item,
-            2 => Question::Hash,
-            _ => Question::Indexes,
+            3 => Question::Indexes,
+            _ => Question::Hash,
         }
     }
 }

@@ -5,11 +5,11 @@
 use case_lines::{Answered, Hex};
 use genesis_headers::{NETWORKS, genesis_header};
 use hns_encoder::Encoder;
+use hns_encoding::Slice;
 use hns_header_consensus::Header;
 use hns_refusals::Refusal;
 use std::fmt::{self, Display};
 use std::io;
-use std::ops::Range;
 
 // Local arrays are what is lent, here and below: there is no heap.
 
@@ -34,8 +34,8 @@ fn number<T: Display + Drop>(
 }
 
 // Where a part stands.
-#[derive(Debug, PartialEq, Eq, Drop)]
-struct Part(Range<usize>);
+#[derive(Clone, Copy, Debug, PartialEq, Eq)]
+struct Part(Slice);
 
 impl Display for Part {
     fn fmt<W: fmt::Write>(&self, f: &mut fmt::Formatter<W>) -> fmt::Result {
@@ -43,7 +43,7 @@ impl Display for Part {
     }
 }
 
-fn slice(rt: &impl Print, name: &str, answer: Result<Range<usize>, Refusal>) -> io::Result<()> {
+fn slice(rt: &impl Print, name: &str, answer: Result<Slice, Refusal>) -> io::Result<()> {
     println!(rt; "{name}: {}", Answered(answer.map(Part)))
 }
 

@@ -12,13 +12,10 @@ use case_lines::{Behind, Hex};
 use hns_encoding::{array_at, first, from_place, u8_at, u16_at, u32_at, u64_at};
 use hns_p2p_block_puts::{AddressFields, VersionFields};
 use hns_refusals::Refusal;
-use std::io;
+use std::io::{self, Read};
 
 // There is no heap: what is lent to a call stands in a local array, of the length that the cases need, with places in it as numbers.
 const FRONT: usize = 17;
-
-// Bytes of a line.
-const LINE_ROOM: usize = 70_000;
 
 // Bytes of a case with its zeros, 50,001 inventory items and a rest at most; and of an output.
 const ROOM: usize = 1_800_200;
@@ -47,13 +44,14 @@ fn written(rt: &impl Print, bytes: &[u8]) -> io::Result<()> {
     }
 }
 
-// How many bytes from a place on are as they were; what stood there goes by the place in the whole output.
+// How many bytes from a place on are as they were; what stood there goes by the place in the whole output. A sum without a branch, which
+// the compiler takes many at a time; filter and count take twice as long.
 fn kept(out: &[u8], from: usize) -> usize {
-    out.iter()
-        .enumerate()
-        .skip(from)
-        .filter(|(place, byte)| **byte == case_input::filler(*place))
-        .count()
+    let mut kept: usize = 0;
+    for place in from..out.len() {
+        kept = kept.wrapping_add(usize::from(out[place] == case_input::filler(place)));
+    }
+    kept
 }
 
 // Printed here, as what is shown of an answer is the output's.
@@ -65,14 +63,23 @@ fn show(rt: &impl Print, answer: Result<usize, Refusal>, out: &[u8]) -> io::Resu
     print!(rt; " kept {}", kept(out, answer.unwrap_or(0)))
 }
 
+// The bytes from a place on, and zeros where they end early: a call may have less than its fields.
+fn cut_at<const N: usize>(fields: &[u8], at: usize) -> [u8; N] {
+    let mut bytes = [0; N];
+    let there = from_place(fields, at);
+    let n = there.len().min(bytes.len());
+    bytes[..n].copy_from_slice(&there[..n]);
+    bytes
+}
+
 // As in hns_p2p_list_puts, which takes an item whose length is known, and has it for itself.
 fn remote(there: &[u8]) -> AddressFields {
     AddressFields {
         time: u64_at(there, 0),
         services: u64_at(there, 8),
-        ip: array_at(there, 16),
+        ip: cut_at(there, 16),
         port: u16_at(there, 32),
-        key: array_at(there, 34),
+        key: cut_at(there, 34),
     }
 }
 
@@ -139,28 +146,61 @@ fn write(asked: u8, fields: &[u8], out: &mut [u8]) -> Result<usize, Refusal> {
     }
 }
 
-// The call that a case with its zeros asks for. Nothing is asked if the output is longer than there is room for.
-fn call(rt: &impl Print, case: &[u8], room: &mut [u8]) -> io::Result<()> {
-    let Some(out) = room.get_mut(..u64_at(case, 1) as usize) else {
-        return Ok(());
-    };
+// Puts zeros behind the n bytes of a case, and answers how many bytes it has then: no case asks for more than there is room for.
+fn lengthen(case: &mut [u8], n: usize, zeros: usize) -> usize {
+    let end = n.saturating_add(zeros).min(case.len());
+    if let Some(part) = case.get_mut(n..end) {
+        part.fill(0);
+    }
+    end
+}
+
+// The call that a case with its zeros asks for, into the whole output.
+fn call(rt: &impl Print, case: &[u8], out: &mut [u8]) -> io::Result<()> {
     case_input::fill(out);
     let answer = write(u8_at(case, 0), from_place(case, FRONT), out);
     show(rt, answer, out)
 }
 
-fn answer(rt: &impl Print, case: &[u8], long: &mut [u8], room: &mut [u8]) -> io::Result<()> {
+// A case of n bytes, whose buffer is lent whole: what a line is too short to say is what stands there. Nothing is asked if the output
+// is longer than there is room for.
+fn answer(rt: &impl Print, case: &mut [u8], n: usize, room: &mut [u8]) -> io::Result<()> {
+    let size = u64_at(case, 1) as usize;
     let zeros = u64_at(case, 9) as usize;
-    case_input::with_long(case, case.len(), zeros, long, |case| call(rt, case, room))
+    let end = lengthen(case, n, zeros);
+    if room.len() < size {
+        return Ok(());
+    }
+    call(rt, first(case, end), &mut room[..size])
+}
+
+// By cases one after the other, and not by a closure: it would be lent a case's own bytes alone.
+fn run(
+    rt: &impl Print,
+    input: &mut impl Read,
+    buffer: &mut [u8],
+    case: &mut [u8],
+    out: &mut [u8],
+) -> io::Result<()> {
+    let mut lines = case_input::first_case(input, buffer, case);
+    while 0 < lines.left {
+        answer(rt, case, lines.size, out)?;
+        println!(rt)?;
+        lines = case_input::next_case(lines, input, buffer, case);
+    }
+    Ok(())
 }
 
 // Each program has a main of its own: what it lends to its cases, and what it asks.
 fn main(rt: HostRuntime) -> io::Result<()> {
     let mut buffer = [0u8; 65_536];
-    let mut case = [0u8; LINE_ROOM];
-    let mut long = [0u8; ROOM];
+    let mut case = [0u8; ROOM];
     let mut out = [0u8; ROOM];
-    case_input::run(&rt, &mut rt.stdin(), &mut buffer, &mut case, |case| {
-        answer(&rt, case, &mut long, &mut out)
-    })
+    run(
+        &rt,
+        &mut rt.stdin(),
+        &mut buffer,
+        case_input::whole(&mut case),
+        case_input::whole(&mut out),
+    )
 }

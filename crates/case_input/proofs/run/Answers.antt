@@ -3,7 +3,7 @@ use Rattle.std.specs.Fn.{CalledAt}
 use Rattle.std.specs.Io.KnownBytes.{Consumes}
 use Rattle.case_input.specs.Cases.{begun, unbegun, cases_in, Answers}
 use Rattle.case_input.proofs.Cases.{none_left, consumes_more, gave}
-use Rattle.case_input.proofs.run.Goals.{else-loop-test, then-loop-test+then-n-eq0}
+use Rattle.case_input.proofs.run.Goals.{else-loop-test, then-loop-test+then-n-eq0+then-filled-eq0}
 use Rattle.case_input.proofs.run.Goals as goal
 
 pub loop-preserved : goal.loop-preserved
@@ -14,19 +14,20 @@ loop-preserved g c =
       search rules,
       search rules,
       search rules,
-      inv.3 ++ chunk,
-      consumes_more _ _ _ inv.3 chunk inv.4 here,
-      λ more h. rw (append_assoc inv.3 chunk more) (inv.5 (chunk ++ more) (rw inv.1 at (c.in_ok-line.ensures.answered more (rw inv.1 h)))),
+      search rules,
+      inv.4 ++ chunk,
+      consumes_more _ _ _ inv.4 chunk inv.5 here,
+      λ more h. rw (append_assoc inv.4 chunk more) (inv.6 (chunk ++ more) (rw inv.1 at (c.in_ok-line.ensures.answered more (rw inv.1 h)))),
     )
 
 pub returns : goal.returns
 returns g c =
     let inv = c.loop.invariant in
-    let all : Answers (CalledAt g.F.FnMut) c.args.answer (cases_in (length c.args.case.now) unbegun inv.3) = rw append-nil at (inv.5 [] (none_left (CalledAt g.F.FnMut) (length c.args.case.now) (begun c.loop.line c.loop.case) c.loop.answer)) in
+    let all : Answers (CalledAt g.F.FnMut) c.args.answer (cases_in (length c.args.case.now) unbegun inv.4) = rw append-nil at (inv.6 [] (none_left (CalledAt g.F.FnMut) (length c.args.case.now) (begun c.loop.line c.loop.case) c.loop.answer)) in
     elim c.loop-test.branch [
-      | else-loop-test w ↦ (inv.3, rw w.input-is inv.4, all)
-      | then-loop-test+then-n-eq0 w ↦
+      | else-loop-test w ↦ (inv.4, rw w.input-is inv.5, all)
+      | then-loop-test+then-n-eq0+then-filled-eq0 w ↦
           let here : Consumes (g.I.Read.remaining c.loop.input) (g.I.Read.remaining w.read.new.self) [] = rw w.if-n-eq0.true at (gave w.read.result w.unwrap_or-n.result _ _ w.read.new.buf w.unwrap_or-n.ensures w.read.ensures.bytes) in
-          let both : Consumes (g.I.Read.remaining c.args.input.now) (g.I.Read.remaining w.read.new.self) inv.3 = rw append-nil at (consumes_more _ _ _ inv.3 [] inv.4 here) in
-          (inv.3, rw w.input-is both, all)
+          let both : Consumes (g.I.Read.remaining c.args.input.now) (g.I.Read.remaining w.read.new.self) inv.4 = rw append-nil at (consumes_more _ _ _ inv.4 [] inv.5 here) in
+          (inv.4, rw w.input-is both, all)
     ]
