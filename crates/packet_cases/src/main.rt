@@ -155,7 +155,7 @@ impl Display for Shown<Item> {
     }
 }
 
-// What is asked, by a case's first byte. An enum, since two bytes ask the same: n, and n + 4 of a long case.
+// What is asked, by a case's first byte. An enum, since several bytes ask the same: n and n + 4 of a long case, and all from 8 on a hash.
 #[derive(Clone, Copy, Debug, PartialEq, Eq)]
 enum Question {
     Packet,
