@@ -1,9 +1,9 @@
 //! Cases of test programs: a line of standard input is a case in hexadecimal, and a program answers one after the other.
 #![tactic(auto)]
 
-ghost use Rattle.std.specs.Prelude.{◌≡◌, OnOk, IfOk, ◌+◌, ◌-◌, ◌%◌, ◌<◌, ◌≤◌, length, take, drop, fold, slice_index, EachIndex};
+ghost use Rattle.std.specs.Prelude.{◌≡◌, ℕ, OnOk, IfOk, IfSome, ◌+◌, ◌-◌, ◌%◌, ◌<◌, ◌≤◌, length, take, drop, fold, slice_index, EachIndex};
 ghost use Rattle.std.specs.Fn.{FnOnceReturnsAt, CalledAt};
-ghost use Rattle.case_input.specs.Cases.{begun, with_digit, AnswersPart, AnswersRead};
+ghost use Rattle.case_input.specs.Cases.{Begun, begun, with_digit, with_any, TakenAs, AnswersPart, AnswersBy, AnswersRead, AnswersReadAny};
 ghost use Rattle.case_input.specs.Zeros.{Zeros, Around, long_case};
 ghost use Rattle.case_input.specs.Outputs.{mixed};
 ghost use Rattle.case_input.specs.Questions.{asked_of, long_question};
@@ -20,19 +20,57 @@ struct Line {
     half: Option<u8>,
 }
 
-// Takes a digit: two make a byte. One that there is no room for is passed over. Any byte is a digit, by one sum for figures and letters.
-#[tactic(auto, using(crate::proofs::Cases::no_room, crate::proofs::Cases::first_digit, crate::proofs::Cases::second_digit))]
-fn take_digit(line: Line, digit: u8, case: &mut [u8]) -> Line
+// How a byte of a line is taken: by its value as a digit, if it has one. A trait, since a const parameter of type bool can't stand beside
+// the closure's type in `take_bytes` (docs/DECISIONS.md, 130).
+trait Digit {
+    ghost taken: { ℕ → Begun → ℕ → Begun };
+
+    fn value(digit: u8) -> Option<u8>
+        ensures small { IfSome result (λ value. value < 16) }
+        ensures taken { TakenAs taken digit result };
+}
+
+// What is no digit has no value.
+struct Hexadecimal;
+
+impl Digit for Hexadecimal {
+    ghost taken = { with_digit };
+
+    #[tactic(auto, using(crate::proofs::Cases::digit_there, crate::proofs::Cases::digit_missing))]
+    fn value(digit: u8) -> Option<u8> {
+        let value = char::from(digit).to_digit(16)?;
+        Some(value as u8)
+    }
+}
+
+// Any byte has one, by one sum for figures and letters.
+struct AnyByte;
+
+impl Digit for AnyByte {
+    ghost taken = { with_any };
+
+    #[tactic(auto, using(crate::proofs::Cases::any_there))]
+    fn value(digit: u8) -> Option<u8> {
+        let value = (digit % 16 + digit / 58 * 9) % 16;
+        Some(value)
+    }
+}
+
+// Takes a digit: two make a byte. What is none, and one that there is no room for, is passed over.
+#[tactic(auto, using(crate::proofs::Cases::no_digit, crate::proofs::Cases::no_room, crate::proofs::Cases::first_digit, crate::proofs::Cases::second_digit))]
+fn take_digit<D: Digit>(line: Line, digit: u8, case: &mut [u8]) -> Line
     requires { line.size ≤ length case.old }
     ensures room { length case.new ≡ length case.old }
     ensures within { result.size ≤ length case.old }
-    ensures begun { begun result case.new ≡ with_digit (length case.old) (begun line case.old) digit }
+    ensures begun { begun result case.new ≡ D.taken (length case.old) (begun line case.old) digit }
 {
     let size = line.size;
+    let Some(value) = D::value(digit) else {
+        return line;
+    };
     if case.len() <= size {
         return line;
     }
-    let value = (digit % 16 + digit / 58 * 9) % 16;
     match line.half {
         None => {
             case[size] = case[size] % 16 * 16 + value;
@@ -53,7 +91,7 @@ fn take_digit(line: Line, digit: u8, case: &mut [u8]) -> Line
 
 // Takes what was read, and has each case answered that ends in it: what it promises holds whatever is read after. It prints the end of
 // the answer's line and nothing of a value.
-fn take_bytes<F: FnMut(&[u8]) -> io::Result<()>>(
+fn take_bytes<D: Digit, F: FnMut(&[u8]) -> io::Result<()>>(
     rt: &impl Print,
     before: Line,
     bytes: &[u8],
@@ -65,7 +103,7 @@ fn take_bytes<F: FnMut(&[u8]) -> io::Result<()>>(
     ensures still_callable { F.IsAlwaysCallable answer.new }
     ensures room { length case.new ≡ length case.old }
     ensures still_within { IfOk result (λ line. line.size ≤ length case.old) }
-    ensures answered { IfOk result (λ line. AnswersPart (CalledAt F.FnMut) (length case.old) answer.old (begun before case.old) bytes.now answer.new (begun line case.new)) }
+    ensures answered { IfOk result (λ line. AnswersPart (CalledAt F.FnMut) D.taken (length case.old) answer.old (begun before case.old) bytes.now answer.new (begun line case.new)) }
 {
     let mut line = before;
     for byte in bytes {
@@ -74,7 +112,7 @@ fn take_bytes<F: FnMut(&[u8]) -> io::Result<()>>(
             println!(rt)?;
             line = Line::default();
         } else {
-            line = take_digit(line, *byte, case);
+            line = take_digit::<D>(line, *byte, case);
         }
     }
     Ok(line)
@@ -83,7 +121,7 @@ fn take_bytes<F: FnMut(&[u8]) -> io::Result<()>>(
 // Answers each case of what was read, one after the other, each in a line of its own. A read that fails is taken for one that gives
 // nothing: a program that loses its cases so prints less than its file `stdout` holds, and `rt ci` compares the two. The input is over
 // where nothing comes into an empty buffer; a terminal, say, may end it and go on.
-pub fn run<I: Read, F: FnMut(&[u8]) -> io::Result<()>>(
+fn run_by<D: Digit, I: Read, F: FnMut(&[u8]) -> io::Result<()>>(
     rt: &impl Print,
     input: &mut I,
     buffer: &mut [u8],
@@ -91,7 +129,7 @@ pub fn run<I: Read, F: FnMut(&[u8]) -> io::Result<()>>(
     mut answer: F,
 ) -> io::Result<()>
     requires { F.IsAlwaysCallable answer }
-    ensures { OnOk result (AnswersRead (CalledAt F.FnMut) (length case.old) answer (I.remaining input.old) (I.remaining input.new)) }
+    ensures { OnOk result (AnswersBy (CalledAt F.FnMut) D.taken (length case.old) answer (I.remaining input.old) (I.remaining input.new)) }
 {
     let mut line = Line::default();
     let mut filled = 0;
@@ -103,10 +141,38 @@ pub fn run<I: Read, F: FnMut(&[u8]) -> io::Result<()>>(
         if n == 0 && filled == 0 {
             break;
         }
-        line = take_bytes(rt, line, &rest[..n], case, &mut answer)?;
+        line = take_bytes::<D, F>(rt, line, &rest[..n], case, &mut answer)?;
         filled = if n == 0 || n == room { 0 } else { filled + n };
     }
     Ok(())
+}
+
+// Answers each case of an input, as said above; what is no digit is passed over. No program calls it (docs/DECISIONS.md, 130).
+pub fn run<I: Read, F: FnMut(&[u8]) -> io::Result<()>>(
+    rt: &impl Print,
+    input: &mut I,
+    buffer: &mut [u8],
+    case: &mut [u8],
+    answer: F,
+) -> io::Result<()>
+    requires { F.IsAlwaysCallable answer }
+    ensures { OnOk result (AnswersRead (CalledAt F.FnMut) (length case.old) answer (I.remaining input.old) (I.remaining input.new)) }
+{
+    run_by::<Hexadecimal, I, F>(rt, input, buffer, case, answer)
+}
+
+// The same, where any byte of a line but its end is a digit: the loop of seven test programs.
+pub fn run_any<I: Read, F: FnMut(&[u8]) -> io::Result<()>>(
+    rt: &impl Print,
+    input: &mut I,
+    buffer: &mut [u8],
+    case: &mut [u8],
+    answer: F,
+) -> io::Result<()>
+    requires { F.IsAlwaysCallable answer }
+    ensures { OnOk result (AnswersReadAny (CalledAt F.FnMut) (length case.old) answer (I.remaining input.old) (I.remaining input.new)) }
+{
+    run_by::<AnyByte, I, F>(rt, input, buffer, case, answer)
 }
 
 // How far an input is taken, for a program that works in the buffer of its cases, with what earlier lines left there: a closure is lent a
@@ -176,7 +242,7 @@ fn step(lines: Lines, input: &mut impl Read, buffer: &mut [u8], case: &mut [u8])
         size: lines.size,
         half: lines.half,
     };
-    let Line { size, half } = take_digit(line, byte, case);
+    let Line { size, half } = take_digit::<AnyByte>(line, byte, case);
     Lines { size, half, ..next }
 }
 
@@ -360,4 +426,33 @@ pub fn whole<const N: usize>(array: &mut [u8; N]) -> &mut [u8]
     ensures { result.now ≡ array.entry.now }
 {
     array
+}
+
+#[cfg(test)]
+mod tests {
+    use super::*;
+    use hns_encoding::u8_at;
+    use std::test::Fail;
+
+    // Of the last case that a text of two lines has: how many bytes, and the first two.
+    #[test]
+    fn what_is_no_digit(rt: HostRuntime) -> Result<(), Fail> {
+        for (any, want) in [(false, (1, 18, 0)), (true, (2, 1, 2))] {
+            let mut text = b"7f\n 1g2\n".as_slice();
+            let mut buffer = [0; 3];
+            let mut case = [0; 4];
+            let mut seen = (0, 0, 0);
+            let answer = |bytes: &[u8]| {
+                seen = (bytes.len(), u8_at(bytes, 0), u8_at(bytes, 1));
+                Ok(())
+            };
+            if any {
+                run_any(&rt, &mut text, &mut buffer, &mut case, answer)?;
+            } else {
+                run(&rt, &mut text, &mut buffer, &mut case, answer)?;
+            }
+            assert_eq!(rt; seen, want, "any byte a digit: {any}");
+        }
+        Ok(())
+    }
 }

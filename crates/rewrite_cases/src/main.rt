@@ -91,7 +91,7 @@ fn main(rt: HostRuntime) -> io::Result<()> {
     let mut case = [0u8; ROOM];
     let mut payload = [0u8; PAYLOAD_ROOM];
     let mut out = [0u8; OUT_ROOM];
-    case_input::run(&rt, &mut rt.stdin(), &mut buffer, &mut case, |case| {
+    case_input::run_any(&rt, &mut rt.stdin(), &mut buffer, &mut case, |case| {
         answer(&rt, case, &mut payload, &mut out)
     })
 }

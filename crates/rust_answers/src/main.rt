@@ -150,7 +150,7 @@ fn answer(rt: &impl Print, case: &[u8]) -> io::Result<()> {
 fn main(rt: HostRuntime) -> io::Result<()> {
     let mut buffer = [0u8; 65_536];
     let mut case = [0u8; 1_024];
-    case_input::run(
+    case_input::run_any(
         &rt,
         &mut rt.stdin(),
         &mut buffer,

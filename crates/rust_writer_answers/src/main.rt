@@ -129,7 +129,7 @@ fn main(rt: HostRuntime) -> io::Result<()> {
     let mut buffer = [0u8; 65_536];
     let mut case = [0u8; ROOM];
     let mut long = [0u8; LONG_ROOM];
-    case_input::run(&rt, &mut rt.stdin(), &mut buffer, &mut case, |case| {
+    case_input::run_any(&rt, &mut rt.stdin(), &mut buffer, &mut case, |case| {
         case_input::with_question(case, &mut long, |q, bytes| ask(&rt, q, bytes))
     })
 }

@@ -181,7 +181,7 @@ fn main(rt: HostRuntime) -> io::Result<()> {
     let zeros = [0u8; LONG_ROOM];
     let mut store = [0u8; LONG_ROOM];
     let mut output = [0u8; LONG_ROOM];
-    case_input::run(&rt, &mut rt.stdin(), &mut buffer, &mut case, |case| {
+    case_input::run_any(&rt, &mut rt.stdin(), &mut buffer, &mut case, |case| {
         answer(&rt, case, &zeros, &mut store, &mut output)
     })
 }

@@ -1,10 +1,10 @@
 use Rattle.std.proofs.Common.{[], ◌++◌, length, take, append_assoc, append-nil, rules}
 use Rattle.std.specs.Fn.{CalledAt}
 use Rattle.std.specs.Io.KnownBytes.{Consumes}
-use Rattle.case_input.specs.Cases.{begun, unbegun, cases_in, Answers}
+use Rattle.case_input.specs.Cases.{begun, unbegun, cases_by, Answers}
 use Rattle.case_input.proofs.Cases.{none_left, consumes_more, gave}
-use Rattle.case_input.proofs.run.Goals.{else-loop-test, then-loop-test+then-n-eq0+then-filled-eq0}
-use Rattle.case_input.proofs.run.Goals as goal
+use Rattle.case_input.proofs.run_by.Goals.{else-loop-test, then-loop-test+then-n-eq0+then-filled-eq0}
+use Rattle.case_input.proofs.run_by.Goals as goal
 
 pub loop-preserved : goal.loop-preserved
 loop-preserved g c =
@@ -23,7 +23,7 @@ loop-preserved g c =
 pub returns : goal.returns
 returns g c =
     let inv = c.loop.invariant in
-    let all : Answers (CalledAt g.F.FnMut) c.args.answer (cases_in (length c.args.case.now) unbegun inv.4) = rw append-nil at (inv.6 [] (none_left (CalledAt g.F.FnMut) (length c.args.case.now) (begun c.loop.line c.loop.case) c.loop.answer)) in
+    let all : Answers (CalledAt g.F.FnMut) c.args.answer (cases_by g.D.Digit.taken (length c.args.case.now) unbegun inv.4) = rw append-nil at (inv.6 [] (none_left (CalledAt g.F.FnMut) g.D.Digit.taken (length c.args.case.now) (begun c.loop.line c.loop.case) c.loop.answer)) in
     elim c.loop-test.branch [
       | else-loop-test w ↦ (inv.4, rw w.input-is inv.5, all)
       | then-loop-test+then-n-eq0+then-filled-eq0 w ↦
